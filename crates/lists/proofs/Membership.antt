@@ -1,12 +1,12 @@
 -- Laws of members: of tests over them, of those that pass, of rearrangements, of lists without repetition, of the first numbers. Assumes nothing.
-use mathlib.Core.Bool.{Bool, true, false, not, _&&_, _||_}
-use mathlib.Core.List.{List, [], _∷_, _++_, List·Memᴰ, List·Memᴰ·head, List·Memᴰ·tail, List·Memᴰ·cases-cons, List·Memᴰ·not-nil, List·Memᴰ·append-cases, List·Memᴰ·eq-of-singleton, Memᴰ·append-left, Memᴰ·append-right, List·Permᴰ, List·Permᴰ·nil, List·Permᴰ·cons, List·Permᴰ·swap, List·Permᴰ·trans, Permᴰ·refl, Permᴰ·symm}
+use mathlib.Core.Bool.{Bool, not, _&&_, _||_}
+use mathlib.Core.List.{List, [], _∷_, _++_, map, List·Memᴰ·head, List·Memᴰ·tail, List·Memᴰ·cases-cons, List·Memᴰ·not-nil, List·Memᴰ·append-cases, List·Memᴰ·eq-of-singleton, Memᴰ·append-left, Memᴰ·append-right, List·Permᴰ, List·Permᴰ·nil, List·Permᴰ·cons, List·Permᴰ·swap, List·Permᴰ·trans, Permᴰ·refl, Permᴰ·symm}
 use mathlib.Core.Logic.{_⊎_, inl, inr, ⊎-elim, _↔_}
-use mathlib.Core.Path.{_≡_, refl, sym, ap, subst, _∙_}
+use mathlib.Core.Path.{_≡_, refl, sym, ap, ap₂, subst, _∙_}
 use Prim.Native.Nat.{ℕ, zero, suc, _≤_, _<_}
 use native.Mathlib.Omega.{arith}
 use lib.ListN.{length, length-append}
-use lib.Dec.{T, T-not, not-T, eqb, eqb-refl, eqb→eq}
+use lib.Dec.{T, T-not, eqb, eqb→eq}
 use Rattle.lists.specs.Choice.{pick}
 use Rattle.lists.specs.Members.{_∈_, any, all, those, distinct, upto}
 use Rattle.lists.proofs.Tests.{both, and-left, and-right, or-left, or-right, or-cases, by-test, decide, eqb-sym, differ, unequal}
@@ -89,6 +89,29 @@ module _ {A : Type 0} where
       (λ nr. by-test (λ l. l ≡ those r (those q xs)) (p x) (λ tp. absurd (T-not (r x) nr (h x .0 tp .1))) (λ np. below)))
       (λ nq. by-test (λ l. l ≡ those r (those q xs)) (p x) (λ tp. absurd (T-not (q x) nq (h x .0 tp .0))) (λ np. below))
 
+  pub those-append : (p : A → Bool) (xs ys : List A) → those p (xs ++ ys) ≡ those p xs ++ those p ys
+  those-append p [] ys = refl
+  those-append p (x ∷ xs) ys =
+      let below = those-append p xs ys in
+      by-test
+      (λ l. those p (x ∷ xs ++ ys) ≡ l ++ those p ys)
+      (p x)
+      (λ t. by-test (λ l. l ≡ x ∷ those p xs ++ those p ys) (p x) (λ u. ap (λ l. x ∷ l) below) (λ u. absurd (T-not (p x) u t)))
+      (λ t. by-test (λ l. l ≡ those p xs ++ those p ys) (p x) (λ u. absurd (T-not (p x) t u)) (λ u. below))
+
+  -- two tests that agree on the members
+  pub any-same : (p q : A → Bool) (xs : List A) → ((x : A) → x ∈ xs → p x ≡ q x) → any p xs ≡ any q xs
+  any-same p q [] h = refl
+  any-same p q (x ∷ xs) h = ap₂ (λ a b. a || b) (h x (List·Memᴰ·head refl)) (any-same p q xs (λ y m. h y (List·Memᴰ·tail m)))
+
+  pub all-same : (p q : A → Bool) (xs : List A) → ((x : A) → x ∈ xs → p x ≡ q x) → all p xs ≡ all q xs
+  all-same p q [] h = refl
+  all-same p q (x ∷ xs) h = ap₂ (λ a b. a && b) (h x (List·Memᴰ·head refl)) (all-same p q xs (λ y m. h y (List·Memᴰ·tail m)))
+
+  pub those-same : (p q : A → Bool) (xs : List A) → ((x : A) → x ∈ xs → p x ≡ q x) → those p xs ≡ those q xs
+  those-same p q [] h = refl
+  those-same p q (x ∷ xs) h = ap₂ (λ b l. pick b (x ∷ l) l) (h x (List·Memᴰ·head refl)) (those-same p q xs (λ y m. h y (List·Memᴰ·tail m)))
+
   -- ---- rearrangements
 
   -- what stands in a list stands in each rearrangement of it, and the two are of one length
@@ -109,6 +132,32 @@ module _ {A : Type 0} where
 
   pub perm-eq : {xs ys : List A} → xs ≡ ys → List·Permᴰ xs ys
   perm-eq {xs} e = subst (λ (l : List A). List·Permᴰ xs l) e (Permᴰ·refl xs)
+
+-- ---- members relabelled
+
+module _ {A B : Type 0} (f : A → B) where
+  pub any-map : (p : B → Bool) (xs : List A) → any p (map f xs) ≡ any (λ x. p (f x)) xs
+  any-map p [] = refl
+  any-map p (x ∷ xs) = ap (λ b. p (f x) || b) (any-map p xs)
+
+  pub all-map : (p : B → Bool) (xs : List A) → all p (map f xs) ≡ all (λ x. p (f x)) xs
+  all-map p [] = refl
+  all-map p (x ∷ xs) = ap (λ b. p (f x) && b) (all-map p xs)
+
+  pub those-map : (p : B → Bool) (xs : List A) → those p (map f xs) ≡ map f (those (λ x. p (f x)) xs)
+  those-map p [] = refl
+  those-map p (x ∷ xs) =
+      let below = those-map p xs in
+      by-test
+      (λ l. those p (f x ∷ map f xs) ≡ map f l)
+      (p (f x))
+      (λ t. by-test (λ l. l ≡ f x ∷ map f (those (λ x. p (f x)) xs)) (p (f x)) (λ u. ap (λ l. f x ∷ l) below) (λ u. absurd (T-not (p (f x)) u t)))
+      (λ t. by-test (λ l. l ≡ map f (those (λ x. p (f x)) xs)) (p (f x)) (λ u. absurd (T-not (p (f x)) t u)) (λ u. below))
+
+  -- a member of a relabelled list is the new label of a member
+  pub map-out : (xs : List A) {y : B} → y ∈ map f xs → (x : A) × (x ∈ xs) × (y ≡ f x)
+  map-out (x ∷ xs) (List·Memᴰ·head e) = (x, List·Memᴰ·head refl, e)
+  map-out (x ∷ xs) (List·Memᴰ·tail m) = let w = map-out xs m in (w .0, List·Memᴰ·tail (w .1), w .2)
 
 -- ---- lists without repetition
 

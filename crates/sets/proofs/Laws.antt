@@ -5,17 +5,14 @@ use Prim.Native.Nat.{ℕ, zero, suc, _+_, _-_, _/_, _%_, _^_, _≤_, _<_}
 use native.Mathlib.Nat.{eq-or-lt-of-le, le-of-suc-le-suc, not-suc-le-zero, zero-lt-suc, mod-lt, div-eq-of-lt, lt-of-lt-of-le, lt-of-not-le}
 use lib.Pow.{pow-mono}
 use native.Mathlib.Omega.{arith}
-use mathlib.Core.Logic.{_⊎_, inl, inr, ⊎-elim}
+use mathlib.Core.Logic.{_⊎_, ⊎-elim}
 use lib.Arith.{bin-ind}
 use borrow.Author.Tests.{eq-eqb, ne-eqb}
 use lib.Dec.{eqb}
 use lib.Bits.{bitOr, or-add-and, and-le-r}
+use Rattle.lists.proofs.Tests.{clash, and-parts, minus-some}
 use Rattle.sets.specs.Set.{member, size, one}
 use Rattle.sets.proofs.Digits.{low, next, of-none, of-or, of-minus, of-only, of-trailing}
-
--- true is not false
-pub clash : true ≡ false → ⊥
-clash e = let z : _≡_ {A = ℕ} 0 1 = cc in omega arith
 
 same-digit : (x y : ℕ) → x < 2 → y < 2 → eqb x 1 ≡ eqb y 1 → x ≡ y
 same-digit zero zero p q e = refl
@@ -57,37 +54,6 @@ part-lt a b i h p q = omega (arith, part-le a b h, differ)
 -- nothing is in 0
 pub none : (i : ℕ) → member 0 i ≡ false
 none = of-none
-
--- what a test by `&&`, `||` and `not` says, and what makes it true
-pub or-cases : (p q : Bool) → (p || q) ≡ true → (p ≡ true) ⊎ (q ≡ true)
-or-cases true q e = inl refl
-or-cases false q e = inr e
-
-pub or-left : (p q : Bool) → p ≡ true → (p || q) ≡ true
-or-left true q e = refl
-or-left false q e = cc
-
-pub or-right : (p q : Bool) → q ≡ true → (p || q) ≡ true
-or-right true q e = refl
-or-right false q e = e
-
-pub and-parts : (p q : Bool) → (p && q) ≡ true → (p ≡ true) × (q ≡ true)
-and-parts true q e = (refl, e)
-and-parts false q e = (cc, cc)
-
-pub and-whole : (p q : Bool) → p ≡ true → q ≡ true → (p && q) ≡ true
-and-whole true q e f = f
-and-whole false q e f = e
-
-pub minus-none : (p q : Bool) → (p && not q) ≡ false → p ≡ true → q ≡ true
-minus-none true true e f = refl
-minus-none true false e f = sym e
-minus-none false q e f = cc
-
-pub minus-some : (p q : Bool) → (p && not q) ≡ true → (p ≡ true) × (q ≡ false)
-minus-some true true e = (refl, sym e)
-minus-some true false e = (refl, refl)
-minus-some false q e = (e, cc)
 
 -- a set of k places has members below k alone, and one that is not 0 has some
 pub within : (k m i : ℕ) → m < 2 ^ k → member m i ≡ true → i < k

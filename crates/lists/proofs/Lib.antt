@@ -1,2 +1,4 @@
+pub mod Membership
 pub mod Searches
 pub mod Stores
+pub mod Tests

@@ -1,0 +1,1 @@
+// No code: what the services are claimed to do stands in specs/ and is proved in proofs/.

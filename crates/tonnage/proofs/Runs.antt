@@ -43,6 +43,9 @@ digit-range c e = go (ltb c 48) (ltb 57 c) refl refl e
     go false true p q r = absurd (true≢false r)
     go true b p q r = absurd (true≢false r)
 
+pub no-other : (c : ℕ) → 48 ≤ c → c ≤ 57 → (ltb c 48 || ltb 57 c) ≡ false
+no-other c h k = rw (le-ltb c 48 h, le-ltb 57 c k)
+
 -- ---- how many digits
 
 one-digit : (k n : ℕ) → n < 10 → widthIn k n ≡ 1

@@ -1,0 +1,134 @@
+-- Demands 1 and 2 for tonnage texts: which number is given when, and the round trips. Assumes nothing.
+use Prim.Native.Nat.{ℕ, _<_, _≤_}
+use native.Mathlib.Omega.{arith}
+use mathlib.Core.Bool.{Bool, true, false, true≢false}
+use mathlib.Core.List.{List, _++_}
+use mathlib.Core.Logic.{_⊎_, inl, inr, _↔_}
+use mathlib.Core.Path.{_≡_, refl, sym, ap, _∙_}
+use lib.ListN.{length, take, drop}
+use lib.IntN.{ℤ, pos, negsuc}
+use lib.Dec.{leb}
+use lib.Seq.{take-append-seam}
+use borrow.Author.Tests.{leb-true, leb-false}
+use Rattle.lists.specs.Choice.{pick}
+use Rattle.refusals.specs.Outcome.{Outcome, gives, refuses}
+use Rattle.lists.specs.Search.{seek, firstIn}
+use Rattle.tonnage.specs.Text.{follow, size, laid, form, figure, textOf}
+use Rattle.tonnage.specs.Grammar.{Tonnage}
+use Rattle.tonnage.specs.Services.{in64, readText, Written, writeText}
+use Rattle.tonnage.proofs.RoundTrip.{accepted-written, written-accepted}
+use Rattle.tonnage.proofs.Sentence.{grammar-form}
+use Rattle.claims.specs.Ascii.{ascii}
+use Rattle.claims.proofs.Table.{cases}
+
+-- ---- outcomes told apart
+
+module _ {A : Type 0} {o : Outcome A} where
+  apart : {a : A} {n p : ℕ} → o ≡ gives a → o ≡ refuses n p → ⊥
+  apart e f = let z : _≡_ {A = ℕ} 0 1 = cc in omega arith
+
+  value : {a b : A} → o ≡ gives a → o ≡ gives b → a ≡ b
+  value e f = cc
+
+  number : {m p n q : ℕ} → o ≡ refuses m p → o ≡ refuses n q → m ≡ n
+  number e f = cc
+
+  place : {m p n q : ℕ} → o ≡ refuses m p → o ≡ refuses n q → p ≡ q
+  place e f = cc
+
+-- ---- reading: demand 1, "A refusal carries the number that document 01 gives it, exactly when 01 says"
+
+module _ (text : List ℕ) where
+  -- what is read, by the two tests
+  judged : (f i : Bool) → form text ≡ f → in64 (figure text) ≡ i → readText text ≡ pick f (pick i (gives (figure text)) (refuses 19 0)) (refuses 18 0)
+  unfolding readText
+  judged f i h k = rw (h, k)
+
+  spelt : form text ≡ true → Tonnage text
+  spelt h = grammar-form text .1 h
+
+  unspelt : form text ≡ false → Tonnage text → ⊥
+  unspelt h t = true≢false (sym (grammar-form text .0 t) ∙ h)
+
+  -- 18: "text not of the form above"
+  pub refused-18 : (readText text ≡ refuses 18 0) ↔ (Tonnage text → ⊥)
+  refused-18 = go (form text) (in64 (figure text)) refl refl
+    where
+      go : (f i : Bool) → form text ≡ f → in64 (figure text) ≡ i → (readText text ≡ refuses 18 0) ↔ (Tonnage text → ⊥)
+      go true true h k = (λ e t. apart (judged true true h k) e, λ n. absurd (n (spelt h)))
+      go true false h k = (λ e t. omega (arith, number (judged true false h k) e), λ n. absurd (n (spelt h)))
+      go false i h k = (λ e. unspelt h, λ n. judged false i h k)
+
+  -- 19: "figure outside signed 64 bits"
+  pub refused-19 : (readText text ≡ refuses 19 0) ↔ (Tonnage text × (in64 (figure text) ≡ false))
+  refused-19 = go (form text) (in64 (figure text)) refl refl
+    where
+      go : (f i : Bool) → form text ≡ f → in64 (figure text) ≡ i → (readText text ≡ refuses 19 0) ↔ (Tonnage text × (in64 (figure text) ≡ false))
+      go true true h k = (λ e. absurd (apart (judged true true h k) e), λ p. absurd (true≢false (sym k ∙ p .1)))
+      go true false h k = (λ e. (spelt h, k), λ p. judged true false h k)
+      go false i h k = (λ e. absurd (omega (arith, number (judged false i h k) e)), λ p. absurd (unspelt h (p .0)))
+
+  -- no other refusal is given
+  pub refused-only : (n p : ℕ) → readText text ≡ refuses n p → ((n ≡ 18) ⊎ (n ≡ 19)) × (p ≡ 0)
+  refused-only n p e = go (form text) (in64 (figure text)) refl refl
+    where
+      go : (f i : Bool) → form text ≡ f → in64 (figure text) ≡ i → ((n ≡ 18) ⊎ (n ≡ 19)) × (p ≡ 0)
+      go true true h k = absurd (apart (judged true true h k) e)
+      go true false h k = (inr (sym (number (judged true false h k) e)), sym (place (judged true false h k) e))
+      go false i h k = (inl (sym (number (judged false i h k) e)), sym (place (judged false i h k) e))
+
+-- each number is given on some text
+pub given-18 : readText (ascii "684") ≡ refuses 18 0
+given-18 = cases .1 .1 .0
+
+pub given-19 : readText (ascii "9223372036854775,808") ≡ refuses 19 0
+unfolding ascii readText form laid firstIn seek size follow figure
+given-19 = refl
+
+-- ---- reading and writing: demand 2, "tonnage texts read back as written, and one that is accepted is exactly what our writer would write"
+
+-- a text that is accepted as z is what the writer leaves in any buffer that it fits, as it is, at the front
+pub accepted : (text : List ℕ) (z : ℤ) → readText text ≡ gives z → textOf z ≡ text
+accepted = accepted-written
+
+module _ (buffer : List ℕ) (z : ℤ) where
+  abbrev fit : Written
+  fit = record { answer = gives (length (textOf z)); text = textOf z ++ drop (length (textOf z)) buffer }
+
+  abbrev unfit : Written
+  unfit = record { answer = refuses 20 0; text = buffer }
+
+  -- what is written, by the test of the length
+  done : (b : Bool) → leb (length (textOf z)) (length buffer) ≡ b → writeText buffer z ≡ pick b fit unfit
+  unfolding writeText
+  done b h = rw h
+
+  -- what the writer wrote for a figure of 64 bits reads back as that figure
+  pub reads-back : (n : ℕ) → in64 z ≡ true → writeText buffer z .answer ≡ gives n → readText (take n (writeText buffer z .text)) ≡ gives z
+  reads-back n h e = go (leb (length (textOf z)) (length buffer)) refl
+    where
+      go : (b : Bool) → leb (length (textOf z)) (length buffer) ≡ b → readText (take n (writeText buffer z .text)) ≡ gives z
+      go true k =
+          let long : length (textOf z) ≡ n = value (ap (λ (w : Written). w .answer) (done true k)) e in
+          rw (done true k, ← long, take-append-seam (textOf z) (drop (length (textOf z)) buffer)) (written-accepted z h)
+      go false k = absurd (apart e (ap (λ (w : Written). w .answer) (done false k)))
+
+  -- ---- writing: demand 1
+
+  -- 20: "text buffer shorter than the text"
+  pub refused-20 : (writeText buffer z .answer ≡ refuses 20 0) ↔ (length buffer < length (textOf z))
+  refused-20 = go (leb (length (textOf z)) (length buffer)) refl
+    where
+      go : (b : Bool) → leb (length (textOf z)) (length buffer) ≡ b → (writeText buffer z .answer ≡ refuses 20 0) ↔ (length buffer < length (textOf z))
+      go true k = (λ e. absurd (apart (ap (λ (w : Written). w .answer) (done true k)) e), λ l. absurd (omega (arith, leb-true (length (textOf z)) (length buffer) k)))
+      go false k = (λ e. leb-false (length (textOf z)) (length buffer) k, λ l. ap (λ (w : Written). w .answer) (done false k))
+
+  -- nothing else is refused, and what is refused leaves the buffer as it was
+  pub refused-unchanged : (n p : ℕ) → writeText buffer z .answer ≡ refuses n p → (n ≡ 20) × (p ≡ 0) × (writeText buffer z .text ≡ buffer)
+  refused-unchanged n p e = go (leb (length (textOf z)) (length buffer)) refl
+    where
+      go : (b : Bool) → leb (length (textOf z)) (length buffer) ≡ b → (n ≡ 20) × (p ≡ 0) × (writeText buffer z .text ≡ buffer)
+      go true k = absurd (apart (ap (λ (w : Written). w .answer) (done true k)) e)
+      go false k =
+          let f = ap (λ (w : Written). w .answer) (done false k) in
+          (sym (number f e), sym (place f e), ap (λ (w : Written). w .text) (done false k))

@@ -1,2 +1,3 @@
 pub mod Searches
+pub mod Loops
 pub mod Stores

@@ -1,0 +1,4 @@
+// Pages: 512 bytes that hold one transaction.
+pub mod check;
+mod counts;
+pub mod held;

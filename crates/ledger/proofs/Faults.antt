@@ -1,8 +1,8 @@
 -- Faults in turn: which number they give, and what it says that there is none. Assumes nothing.
-use mathlib.Core.Path.{_≡_, refl, _∙_}
+use mathlib.Core.Path.{_≡_, refl, sym, _∙_}
 use mathlib.Core.Bool.{Bool, true, false, not, _||_, _&&_, true≢false, false≢true}
 use mathlib.Core.List.{List}
-use Prim.Native.Nat.{ℕ, zero, suc, _+_, _≤_, _<_}
+use Prim.Native.Nat.{ℕ, zero, suc, _+_, _/_, _≤_, _<_}
 use native.Mathlib.Omega.{arith}
 use lib.ListN.{length, getD}
 use lib.Dec.{eqb, ltb, eqb·suc-zero}
@@ -11,9 +11,11 @@ use Rattle.lists.specs.Search.{firstIn, someIn}
 use Rattle.lists.proofs.Searches.{some, none}
 use Rattle.refusals.specs.Outcome.{gives, refuses}
 use Rattle.ledger.specs.Bytes.{field, weighed, set?}
-use Rattle.ledger.specs.Tx.{Tx, readOf, writeOf, readOutOfTurn, writeOutOfTurn, wrongVersion, wrongKind}
-use Rattle.ledger.specs.Page.{readCount, writeCount, size, fault, _then_, countFault, headFault, entryFault, pageFault, pageTx, Counted}
-use Rattle.ledger.specs.Services.{checkPage}
+use Rattle.ledger.specs.Tx.{Tx, valueTx, padded, readOf, writeOf, readOutOfTurn, writeOutOfTurn, wrongVersion, wrongKind}
+use Rattle.ledger.specs.Page.{readCount, writeCount, size, fault, _then_, countFault, headFault, entryFault, pageFault, pageTx, pageOf, placed, Counted}
+use Rattle.ledger.specs.declared.Transaction.{Transaction}
+use Rattle.ledger.specs.Services.{Counts, checkPage, readPage, writeFault, writePage}
+use Rattle.ledger.specs.Services as Services
 
 -- ---- one fault, and two in turn
 
@@ -88,12 +90,18 @@ head-counted p e =
 -- ---- 6 to 9
 
 -- what a search found, against the count
-module _ (bad : ℕ → Bool) (to n x : ℕ) (found : x ≡ firstIn bad 0 to) (count : n ≡ to) where
-  pub some-of : x < n → someIn bad 0 to ≡ true
-  some-of h = some bad 0 to x found (rw count at h)
+module _ (bad : ℕ → Bool) (to n x : ℕ) (count : n ≡ to) where
+  pub some-of : x ≡ firstIn bad 0 to → x < n → someIn bad 0 to ≡ true
+  some-of found h = some bad 0 to x found (rw count at h)
 
-  pub none-of : n ≤ x → someIn bad 0 to ≡ false
-  none-of h = none bad 0 to x found (rw count at h)
+  pub none-of : x ≡ firstIn bad 0 to → n ≤ x → someIn bad 0 to ≡ false
+  none-of found h = none bad 0 to x found (rw count at h)
+
+  pub some-in : x ≡ firstIn bad 0 n → x < n → someIn bad 0 to ≡ true
+  some-in found = some-of (rw count at found)
+
+  pub none-in : x ≡ firstIn bad 0 n → n ≤ x → someIn bad 0 to ≡ false
+  none-in found = none-of (rw count at found)
 
 module _ (x : Tx) where
   abbrev pub six : Bool
@@ -170,3 +178,58 @@ module _ (p : List ℕ) where
       → gives (record { reads = r; writes = w }) ≡ checkPage p
   unfolding checkPage
   check-taken r w er ew e = rw (e, er, ew)
+
+  -- what the answer of the check says of the page
+  pub taken-none : (x : Counts) → gives x ≡ checkPage p → pageFault p ≡ 0
+  unfolding checkPage
+  taken-none x e = go (pageFault p) refl
+    where
+      go : (n : ℕ) → pageFault p ≡ n → pageFault p ≡ 0
+      go zero q = q
+      go (suc n) q =
+          let r : refuses (suc n) 0 ≡ checkPage p = check-refused (suc n) (λ z. omega arith) (sym q) in
+          let z : _≡_ {A = ℕ} 0 1 = cc in
+          absurd (omega arith)
+
+  pub refused-some : (n : ℕ) → refuses n 0 ≡ checkPage p → pageFault p ≡ 0 → ⊥
+  refused-some n e q =
+      let g = check-taken (length (pageTx p .reads)) (length (pageTx p .writes)) refl refl q in
+      let z : _≡_ {A = ℕ} 0 1 = cc in
+      omega arith
+
+  -- what reading it gives
+  pub read-taken : pageFault p ≡ 0 → record { answer = checkPage p; transaction = padded (pageTx p) } ≡ readPage p
+  unfolding readPage
+  read-taken e = rw (eq-eqb _ 0 e)
+
+  pub read-refused : (pageFault p ≡ 0 → ⊥) → record { answer = checkPage p; transaction = Services.none } ≡ readPage p
+  unfolding readPage
+  read-refused h = rw (ne-eqb _ 0 h)
+
+-- ---- 4 to 9, then 17
+
+module _ (batch : List ℕ) (index : ℕ) (t : Transaction) where
+  -- the fault of a write
+  abbrev pub wrong : ℕ
+  wrong = writeFault t index (length batch / 512)
+
+  pub wrong-counts : (countFault (t .r) (t .w) ≡ 0 → ⊥) → wrong ≡ countFault (t .r) (t .w)
+  unfolding writeFault
+  wrong-counts h = then-first (countFault (t .r) (t .w)) _ h
+
+  pub wrong-entries : countFault (t .r) (t .w) ≡ 0 → (entryFault (valueTx t) ≡ 0 → ⊥) → wrong ≡ entryFault (valueTx t)
+  unfolding writeFault
+  wrong-entries e h = then-rest (countFault (t .r) (t .w)) _ e ∙ then-first (entryFault (valueTx t)) _ h
+
+  pub wrong-index : countFault (t .r) (t .w) ≡ 0 → entryFault (valueTx t) ≡ 0 → wrong ≡ fault 17 (not (ltb index (length batch / 512)))
+  unfolding writeFault
+  wrong-index e h = then-rest (countFault (t .r) (t .w)) _ e ∙ then-rest (entryFault (valueTx t)) _ h
+
+  -- what writing answers
+  pub write-refused : (n : ℕ) → (n ≡ 0 → ⊥) → n ≡ wrong → record { answer = refuses n 0; batch = batch } ≡ writePage batch index t
+  unfolding writePage
+  write-refused n h e = rw (← e, ne-eqb n 0 h)
+
+  pub write-done : wrong ≡ 0 → record { answer = gives tt; batch = placed batch index (pageOf (valueTx t)) } ≡ writePage batch index t
+  unfolding writePage
+  write-done e = rw (eq-eqb _ 0 e)

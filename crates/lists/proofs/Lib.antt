@@ -1,3 +1,4 @@
 pub mod Searches
 pub mod Loops
 pub mod Stores
+pub mod Filled

@@ -1,3 +1,5 @@
+pub mod Filled
+pub mod Loops
 pub mod Membership
 pub mod Searches
 pub mod Stores

@@ -1,0 +1,10 @@
+pub mod Numbers
+pub mod Signed
+pub mod Turns
+pub mod OnPage
+pub mod Stored
+pub mod Laid
+pub mod Valued
+pub mod Placed
+pub mod Faults
+pub mod Pages

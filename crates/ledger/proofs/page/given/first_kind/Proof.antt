@@ -1,0 +1,71 @@
+-- `first_kind`: a search by index.
+use mathlib.Core.Path.{_≡_, sym, ap, _∙_}
+use Prim.Native.Nat.{_-_}
+use native.Mathlib.Omega.{arith}
+use borrow.Author.Needs.{needs}
+use lib.ListN.{take}
+use lib.Seq.{getD-take}
+use Rattle.lists.proofs.Loops.{Unfound, begins, found, passes, ends}
+use Rattle.ledger.specs.declared.Write.{Write}
+use Rattle.ledger.specs.Tx.{noWrite, writeOf, wrongKind}
+use Rattle.ledger.proofs.page.given.first_kind.Statement.{statement}
+use Rattle.ledger.proofs.page.given.first_kind.Tie as tie
+
+abbrev Inv-loop : tie.InvT-loop
+Inv-loop n xs i₀ i = Unfound (λ j. wrongKind (writeOf (take n xs) j)) 0 n i
+
+abbrev μ-loop : tie.MeasureT-loop
+μ-loop n xs i₀ i = n - i
+
+-- a turn's write is that within the count
+is : (c : tie.In-loop Inv-loop μ-loop)
+    → let a = c .before .before .args in
+    wrongKind (writeOf (take (a .n) (a .t1)) (c .before .loop .i)) ≡ wrongKind (writeOf (a .t1) (c .before .loop .i))
+is c = let a = c .before .before .args in ap (λ (x : Write). wrongKind x) (getD-take (a .n) (a .t1) (c .before .loop .i) noWrite (c .loop-test .taken))
+
+loop-holds : tie.Need-loop-holds Inv-loop μ-loop
+loop-holds c = begins _ _ _ (omega arith)
+
+mul-kind-wrong : tie.Need-mul-kind-wrong Inv-loop μ-loop
+mul-kind-wrong c = search needs
+
+array-copy-out-kind-wrong : tie.Need-array-copy-out-kind-wrong Inv-loop μ-loop
+array-copy-out-kind-wrong c = search needs
+
+kind-wrong-requires : tie.Need-kind-wrong-requires Inv-loop μ-loop
+kind-wrong-requires c κs = search needs
+
+returns : tie.Need-returns Inv-loop μ-loop
+returns c =
+    let l = c .before .before .before in
+    found (l .before .loop .inv) (l .loop-test .taken) (is l ∙ sym (c .before .kind-wrong .ensures) ∙ c .if1 .taken)
+
+add-i : tie.Need-add-i Inv-loop μ-loop
+add-i c = search needs
+
+loop-less : tie.Need-loop-less Inv-loop μ-loop
+loop-less c = search needs
+
+loop-again : tie.Need-loop-again Inv-loop μ-loop
+loop-again c =
+    let l = c .before .before .before in
+    passes (l .before .loop .inv) (l .loop-test .taken) (is l ∙ sym (c .before .kind-wrong .ensures) ∙ c .if1 .left)
+
+returns-2 : tie.Need-returns-2 Inv-loop μ-loop
+returns-2 c = ends (c .before .loop .inv) (c .loop-test .left)
+
+pub first-kind-spec : {M : Type 1} → statement M
+first-kind-spec =
+    tie.close
+    (tie.spec
+    Inv-loop
+    μ-loop
+    loop-holds
+    mul-kind-wrong
+    array-copy-out-kind-wrong
+    kind-wrong-requires
+    returns
+    add-i
+    loop-less
+    loop-again
+    returns-2)

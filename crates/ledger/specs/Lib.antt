@@ -1,0 +1,5 @@
+pub mod Bytes
+pub mod Version
+pub mod Tx
+pub mod Page
+pub mod Services

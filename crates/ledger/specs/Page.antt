@@ -1,0 +1,124 @@
+-- Document 01, 'Page layout': the transaction on a page, the page of a transaction, and the faults of a page in turn. Assumes nothing.
+use Prim.Native.Nat.{ℕ, _+_, _-_, _*_, _≤_}
+use mathlib.Core.Bool.{Bool, not, _||_, _&&_}
+use mathlib.Core.List.{List, [], _∷_, _++_}
+use mathlib.Core.Path.{_≡_}
+use lib.ListN.{length, getD, take, drop, replicate}
+use lib.Dec.{eqb, ltb}
+use mir.Syntax.{w64}
+use mir.Val.{toZ, ofZ}
+use Rattle.lists.specs.Choice.{pick}
+use Rattle.lists.specs.Search.{someIn}
+use Rattle.ledger.specs.declared.Read.{Read}
+use Rattle.ledger.specs.declared.Write.{Write}
+use Rattle.ledger.specs.Bytes.{field, le, weighed, set?, tab, flat}
+use Rattle.ledger.specs.Tx.{Tx, readOf, writeOf, readOutOfTurn, writeOutOfTurn, wrongVersion, wrongKind}
+
+-- "1, 2: number of reads r, of writes w"
+abbrev pub readCount : List ℕ → ℕ
+readCount p = getD p 1 0
+
+abbrev pub writeCount : List ℕ → ℕ
+writeCount p = getD p 2 0
+
+-- "8r + 12w"
+abbrev pub size : ℕ → ℕ → ℕ
+size r w = 8 * r + 12 * w
+
+-- ---- the transaction on a page
+
+-- "reads of 8 bytes: key 2, place 2, block 4"
+abbrev pub readAt : List ℕ → ℕ → Read
+readAt p at = record { key = field p at 2; version = record { block = field p (at + 4) 4; place = field p (at + 2) 2 } }
+
+-- "writes of 12 bytes: key 2, kind 2, value 8 signed"
+abbrev pub writeAt : List ℕ → ℕ → Write
+writeAt p at = record { key = field p at 2; kind = field p (at + 2) 2; value = toZ w64 (field p (at + 4) 8) }
+
+-- "4 to 7: ticket"; "8 on: r reads"; "then: w writes"
+unfoldable pub pageTx : List ℕ → Tx
+pageTx p = record {
+  ticket = field p 4 4;
+  reads = tab (readCount p) (λ i. readAt p (8 + 8 * i));
+  writes = tab (writeCount p) (λ i. writeAt p (8 + 8 * readCount p + 12 * i));
+}
+
+-- ---- the page of a transaction
+
+abbrev pub readBytes : Read → List ℕ
+readBytes x = le 2 (x .key) ++ le 2 (x .version .place) ++ le 4 (x .version .block)
+
+abbrev pub writeBytes : Write → List ℕ
+writeBytes x = le 2 (x .key) ++ le 2 (x .kind) ++ le 8 (ofZ w64 (x .value))
+
+-- "0: mark, hex 54"; "3: zero"
+abbrev pub headBytes : ℕ → ℕ → ℕ → List ℕ
+headBytes r w ticket = (0x54 ∷ r ∷ w ∷ 0 ∷ []) ++ le 4 ticket
+
+-- bytes 0 to 507: the head, the reads, the writes, and "up to 507: zero"
+unfoldable pub bodyOf : Tx → List ℕ
+bodyOf x =
+    headBytes (length (x .reads)) (length (x .writes)) (x .ticket)
+    ++ flat (length (x .reads)) (λ i. readBytes (readOf (x .reads) i))
+    ++ flat (length (x .writes)) (λ i. writeBytes (writeOf (x .writes) i))
+    ++ replicate (500 - size (length (x .reads)) (length (x .writes))) 0
+
+-- "508 to 511: check"
+unfoldable pub pageOf : Tx → List ℕ
+pageOf x = bodyOf x ++ le 4 (weighed (bodyOf x) 508)
+
+-- ---- faults: a refusal number, 0 where there is none
+
+-- number n where the test holds
+abbrev pub fault : ℕ → Bool → ℕ
+fault n holds = pick holds n 0
+
+-- the first fault, and only where there is none the second
+infixr 20 _then_
+abbrev pub _then_ : ℕ → ℕ → ℕ
+a then b = pick (eqb a 0) b a
+
+-- "4: r or w above 32"; "5: 8r + 12w above 500"
+unfoldable pub countFault : ℕ → ℕ → ℕ
+countFault r w = fault 4 (ltb 32 r || ltb 32 w) then fault 5 (ltb 500 (size r w))
+
+-- "6: read keys not rising, or above 1023"; "7: read version of another form"; "8: write keys ..";
+-- "9: kind neither 0 nor 1, or delete with value"
+unfoldable pub entryFault : Tx → ℕ
+entryFault x =
+    fault 6 (someIn (readOutOfTurn (x .reads)) 0 (length (x .reads)))
+    then fault 7 (someIn (λ i. wrongVersion (readOf (x .reads) i .version)) 0 (length (x .reads)))
+    then fault 8 (someIn (writeOutOfTurn (x .writes)) 0 (length (x .writes)))
+    then fault 9 (someIn (λ i. wrongKind (writeOf (x .writes) i)) 0 (length (x .writes)))
+
+-- "1: page not of 512 bytes"; "2: check differs"; "3: mark or byte 3 wrong"; then 4 and 5
+unfoldable pub headFault : List ℕ → ℕ
+headFault p =
+    fault 1 (not (eqb (length p) 512))
+    then fault 2 (not (eqb (weighed p 508) (field p 508 4)))
+    then fault 3 (not (eqb (getD p 0 0) 0x54 && eqb (getD p 3 0) 0))
+    then countFault (readCount p) (writeCount p)
+
+-- "Reading a page: 1 to 10 in turn"; "10: spare byte not zero"
+unfoldable pub pageFault : List ℕ → ℕ
+pageFault p =
+    headFault p
+    then entryFault (pageTx p)
+    then fault 10 (someIn (set? p) (8 + size (readCount p) (writeCount p)) 508)
+
+-- a page of 512 bytes whose counts are good: what reading it where it lies asks
+pub record Counted (p : List ℕ) : Type 0 where
+  pub whole : length p ≡ 512
+  pub few-reads : readCount p ≤ 32
+  pub few-writes : writeCount p ≤ 32
+  pub room : size (readCount p) (writeCount p) ≤ 500
+
+-- ---- pages of a batch
+
+-- page i of a batch
+abbrev pub pageAt : List ℕ → ℕ → List ℕ
+pageAt batch i = take 512 (drop (i * 512) batch)
+
+-- the batch with page i replaced: "every byte of the batch outside that page stays"
+abbrev pub placed : List ℕ → ℕ → List ℕ → List ℕ
+placed batch i page = take (i * 512) batch ++ (page ++ drop (i * 512 + 512) batch)

@@ -1,0 +1,98 @@
+// Numbers in bytes, lowest byte first, and loops over the bytes of a page.
+ghost use mathlib.Core.Path.{_≡_};
+ghost use Prim.Native.Nat.{_+_, _≤_};
+ghost use lib.ListN.{length};
+ghost use lib.Seq.{sets};
+ghost use mir.Syntax.{w64};
+ghost use mir.Val.{toZ, ofZ};
+ghost use Rattle.lists.specs.Search.{firstIn};
+ghost use Rattle.ledger.specs.Bytes.{field, weighed, set?, le};
+
+// The number in the two bytes of `p` from `at` on.
+pub fn le2(p: &[u8], at: usize) -> u16
+    requires { ⌜ at + 2 ≤ length (now p) ⌝ }
+    ensures { λ r. ⌜ r ≡ field (now (p .entry)) at 2 ⌝ }
+{
+    (p[at] as u16) + (p[at + 1] as u16) * 256
+}
+
+// The number in four bytes.
+pub fn le4(p: &[u8], at: usize) -> u32
+    requires { ⌜ at + 4 ≤ length (now p) ⌝ }
+    ensures { λ r. ⌜ r ≡ field (now (p .entry)) at 4 ⌝ }
+{
+    (le2(p, at) as u32) + (le2(p, at + 2) as u32) * 65536
+}
+
+// The number in eight bytes.
+pub fn le8(p: &[u8], at: usize) -> u64
+    requires { ⌜ at + 8 ≤ length (now p) ⌝ }
+    ensures { λ r. ⌜ r ≡ field (now (p .entry)) at 8 ⌝ }
+{
+    (le4(p, at) as u64) + (le4(p, at + 4) as u64) * 4294967296
+}
+
+// The sum over the first `n` bytes of (offset + 1) times the byte.
+pub fn weigh(p: &[u8], n: usize) -> u32
+    requires { ⌜ (n ≤ length (now p)) × (n ≤ 508) ⌝ }
+    ensures { λ r. ⌜ r ≡ weighed (now (p .entry)) n ⌝ }
+{
+    let mut sum: u32 = 0;
+    let mut i = 0;
+    while i < n {
+        sum += (i as u32 + 1) * (p[i] as u32);
+        i += 1;
+    }
+    sum
+}
+
+// The first offset from `from` up to, not including, `to` whose byte is not zero; `to` where all are.
+pub fn first_set(p: &[u8], from: usize, to: usize) -> usize
+    requires { ⌜ (from ≤ to) × (to ≤ length (now p)) ⌝ }
+    ensures { λ r. ⌜ r ≡ firstIn (set? (now (p .entry))) from to ⌝ }
+{
+    let mut i = from;
+    while i < to {
+        if p[i] != 0 {
+            return i;
+        }
+        i += 1;
+    }
+    to
+}
+
+// Writes `v` in the `n` bytes from `at` on.
+pub fn put(p: &mut [u8], at: usize, n: usize, v: u64)
+    requires { ⌜ at + n ≤ length (now p) ⌝ }
+    ensures { λ _. ⌜ now (p .exit) ≡ sets (now (p .entry)) at (le n v) ⌝ }
+{
+    let mut rest = v;
+    let mut k = 0;
+    while k < n {
+        p[at + k] = (rest % 256) as u8;
+        rest = rest / 256;
+        k += 1;
+    }
+}
+
+// The signed number whose bits `n` is.
+pub fn signed(n: u64) -> i64
+    ensures { λ r. ⌜ r ≡ toZ w64 n ⌝ }
+{
+    if n < 0x8000_0000_0000_0000 {
+        n as i64
+    } else {
+        -1 - ((0xffff_ffff_ffff_ffff - n) as i64)
+    }
+}
+
+// The bits of a signed number.
+pub fn bits(v: i64) -> u64
+    ensures { λ r. ⌜ r ≡ ofZ w64 v ⌝ }
+{
+    if v >= 0 {
+        v as u64
+    } else {
+        0xffff_ffff_ffff_ffff - ((-1 - v) as u64)
+    }
+}

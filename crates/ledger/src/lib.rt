@@ -1,0 +1,53 @@
+// The ledger: pages, and below them versions and numbers in bytes.
+use refusals::Refusal;
+
+// A version: a block number and a place.
+pub struct Version {
+    pub block: u32,
+    pub place: u16,
+}
+
+// A read: a key, and the version that it names.
+pub struct Read {
+    pub key: u16,
+    pub version: Version,
+}
+
+// A write: a key, 0 for put or 1 for delete, and the value that is put.
+pub struct Write {
+    pub key: u16,
+    pub kind: u16,
+    pub value: i64,
+}
+
+// A transaction: `r` reads and `w` writes; entries beyond these count for nothing.
+pub struct Transaction {
+    pub ticket: u32,
+    pub r: usize,
+    pub w: usize,
+    pub reads: [Read; 32],
+    pub writes: [Write; 32],
+}
+
+// What checking a page finds: its counts of reads and writes, or the number of its first fault.
+pub enum PageCheck {
+    Good { reads: usize, writes: usize },
+    Bad { number: u32 },
+}
+
+// What reading a page finds: the check, and the transaction where the page is good.
+pub struct PageRead {
+    pub check: PageCheck,
+    pub transaction: Transaction,
+}
+
+// What writing a page did.
+pub enum PageWrite {
+    Written,
+    Unwritten { refusal: Refusal },
+}
+
+mod bytes;
+mod entry;
+pub mod page;
+mod versions;

@@ -1,0 +1,8 @@
+// Pages: 512 bytes that hold one transaction.
+pub mod check;
+mod counts;
+mod fill;
+mod given;
+pub mod held;
+pub mod read;
+pub mod write;

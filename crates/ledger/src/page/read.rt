@@ -1,0 +1,110 @@
+// Reading a page into a transaction by value.
+use crate::PageCheck;
+use crate::PageRead;
+use crate::Read;
+use crate::Transaction;
+use crate::Version;
+use crate::Write;
+use crate::page::check;
+use crate::page::held;
+ghost use mathlib.Core.Path.{_≡_};
+ghost use mathlib.Core.List.{_++_};
+ghost use Prim.Native.Nat.{_-_};
+ghost use lib.ListN.{length, replicate};
+ghost use Rattle.ledger.specs.Tx.{padded, noRead, noWrite, TransactionFits};
+ghost use Rattle.ledger.specs.Page.{pageTx, Counted};
+ghost use Rattle.ledger.specs.Services.{none, taken, readPage};
+
+const NO_READ: Read = Read {
+    key: 0,
+    version: Version { block: 0, place: 0 },
+};
+
+const NO_WRITE: Write = Write {
+    key: 0,
+    kind: 0,
+    value: 0,
+};
+
+// The reads of a page, and zeros beyond them.
+fn all_reads(page: &[u8]) -> [Read; 32]
+    requires { ⌜ Counted (now page) ⌝ }
+    ensures { λ xs. ⌜ xs ≡ pageTx (now (page .entry)) .reads ++ replicate (32 - length (pageTx (now (page .entry)) .reads)) noRead ⌝ }
+{
+    let n = held::reads(page);
+    let mut xs = [NO_READ; 32];
+    let mut i = 0;
+    while i < n {
+        xs[i] = held::read(page, i);
+        i += 1;
+    }
+    xs
+}
+
+// The writes of a page, and zeros beyond them.
+fn all_writes(page: &[u8]) -> [Write; 32]
+    requires { ⌜ Counted (now page) ⌝ }
+    ensures { λ xs. ⌜ xs ≡ pageTx (now (page .entry)) .writes ++ replicate (32 - length (pageTx (now (page .entry)) .writes)) noWrite ⌝ }
+{
+    let n = held::writes(page);
+    let mut xs = [NO_WRITE; 32];
+    let mut i = 0;
+    while i < n {
+        xs[i] = held::write(page, i);
+        i += 1;
+    }
+    xs
+}
+
+// The transaction on a page of good counts.
+fn transaction(page: &[u8]) -> Transaction
+    requires { ⌜ Counted (now page) ⌝ }
+    ensures { λ t. ⌜ t ≡ padded (pageTx (now (page .entry))) ⌝ }
+{
+    let reads = all_reads(page);
+    let writes = all_writes(page);
+    Transaction {
+        ticket: held::ticket(page),
+        r: held::reads(page),
+        w: held::writes(page),
+        reads,
+        writes,
+    }
+}
+
+// No transaction.
+fn nothing() -> Transaction
+    ensures { λ t. ⌜ t ≡ none ⌝ }
+{
+    let reads = [NO_READ; 32];
+    let writes = [NO_WRITE; 32];
+    Transaction {
+        ticket: 0,
+        r: 0,
+        w: 0,
+        reads,
+        writes,
+    }
+}
+
+// Reads a page of any length: refusals 1 to 10 in turn.
+pub fn read_page(page: &[u8]) -> PageRead
+    ensures { λ x. ⌜ taken x ≡ readPage (now (page .entry)) ⌝ }
+{
+    let check = check::check_page(page);
+    let PageCheck::Good {
+        reads: _,
+        writes: _,
+    } = check
+    else {
+        let transaction = nothing();
+        return PageRead { check, transaction };
+    };
+    let transaction = transaction(page);
+    PageRead { check, transaction }
+}
+
+// A value of the program is within the ranges of its types.
+pub fn fitted(t: Transaction)
+    ensures { λ _. ⌜ TransactionFits t ⌝ }
+{}

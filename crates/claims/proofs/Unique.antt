@@ -1,14 +1,21 @@
 -- Any two outcomes that a service's promise allows are equal. Assumes nothing.
 use Prim.Native.Nat.{ℕ}
 use mathlib.Core.List.{List}
-use mathlib.Core.Path.{_≡_, refl, sym, ap, _∙_}
+use mathlib.Core.Path.{_≡_, refl, sym, ap, ap₂, _∙_}
 use lib.IntN.{ℤ}
 use Rattle.refusals.specs.declared.Refusal.{Refusal}
 use Rattle.tonnage.specs.declared.Reading.{Reading}
 use Rattle.tonnage.specs.declared.Reading.the-variants.{Kilograms, Unread}
 use Rattle.tonnage.specs.declared.Writing.{Writing}
-use Rattle.tonnage.specs.declared.Writing.the-variants.{Length, Unwritten}
-use Rattle.tonnage.specs.Services.{read, readText, Written, wrote, writeText}
+use Rattle.tonnage.specs.declared.Writing.the-variants.{Length, Unwritten as NoText}
+use Rattle.ledger.specs.declared.Transaction.{Transaction}
+use Rattle.ledger.specs.declared.PageCheck.{PageCheck}
+use Rattle.ledger.specs.declared.PageCheck.the-variants.{Good, Bad}
+use Rattle.ledger.specs.declared.PageRead.{PageRead}
+use Rattle.ledger.specs.declared.PageWrite.{PageWrite}
+use Rattle.ledger.specs.declared.PageWrite.the-variants.{Written, Unwritten}
+use Rattle.ledger.specs.Services.{Counts, checked, checkPage, Taken, taken, readPage, Put, put, writePage}
+use Rattle.tonnage.specs.Services.{read, readText, Written as WrittenText, wrote, writeText}
 
 -- a refusal is its number and its place
 same-refusal : (r q : Refusal) → r .number ≡ q .number → r .place ≡ q .place → r ≡ q
@@ -26,13 +33,13 @@ read-tonnage text r q h k = one-reading r q (h ∙ sym k)
 
 one-answer : (r q : Writing) (b c : List ℕ) → wrote r b .answer ≡ wrote q c .answer → r ≡ q
 one-answer (Length m) (Length n) b c e = cc
-one-answer (Length m) (Unwritten z) b c e = cc
-one-answer (Unwritten y) (Length n) b c e = cc
-one-answer (Unwritten y) (Unwritten z) b c e = ap Unwritten (same-refusal y z (cc) (cc))
+one-answer (Length m) (NoText z) b c e = cc
+one-answer (NoText y) (Length n) b c e = cc
+one-answer (NoText y) (NoText z) b c e = ap NoText (same-refusal y z (cc) (cc))
 
 left-text : (r : Writing) (b : List ℕ) → wrote r b .text ≡ b
 left-text (Length n) b = refl
-left-text (Unwritten q) b = refl
+left-text (NoText q) b = refl
 
 -- writing a tonnage text: the answer, and the lent buffer
 pub write-tonnage :
@@ -40,4 +47,43 @@ pub write-tonnage :
     wrote r b ≡ writeText buffer z → wrote q c ≡ writeText buffer z → (r ≡ q) × (b ≡ c)
 write-tonnage buffer z r q b c h k =
     let e = h ∙ sym k in
-    (one-answer r q b c (ap (λ (w : Written). w .answer) e), sym (left-text r b) ∙ ap (λ (w : Written). w .text) e ∙ left-text q c)
+    (one-answer r q b c (ap (λ (w : WrittenText). w .answer) e), sym (left-text r b) ∙ ap (λ (w : WrittenText). w .text) e ∙ left-text q c)
+
+-- ---- pages
+
+one-check : (x y : PageCheck) → checked x ≡ checked y → x ≡ y
+one-check (Good r w) (Good q v) e =
+    let c : _≡_ {A = Counts} (record { reads = r; writes = w }) (record { reads = q; writes = v }) = cc in
+    ap₂ Good (ap (λ (k : Counts). k .reads) c) (ap (λ (k : Counts). k .writes) c)
+one-check (Good r w) (Bad n) e = cc
+one-check (Bad n) (Good r w) e = cc
+one-check (Bad m) (Bad n) e = cc
+
+-- checking a page
+pub check-page : (page : List ℕ) (x y : PageCheck) → checked x ≡ checkPage page → checked y ≡ checkPage page → x ≡ y
+check-page page x y h k = one-check x y (h ∙ sym k)
+
+-- reading a page: the answer, and the transaction with it
+pub read-page : (page : List ℕ) (x y : PageRead) → taken x ≡ readPage page → taken y ≡ readPage page → x ≡ y
+read-page page x y h k =
+    let e = h ∙ sym k in
+    let c = one-check (x .check) (y .check) (ap (λ (t : Taken). t .answer) e) in
+    λ i. record { check = c i; transaction = e i .transaction }
+
+one-put : (x y : PageWrite) (b c : List ℕ) → put x b .answer ≡ put y c .answer → x ≡ y
+one-put Written Written b c e = refl
+one-put Written (Unwritten r) b c e = cc
+one-put (Unwritten r) Written b c e = cc
+one-put (Unwritten r) (Unwritten q) b c e = ap Unwritten (same-refusal r q (cc) (cc))
+
+left-batch : (x : PageWrite) (b : List ℕ) → put x b .batch ≡ b
+left-batch Written b = refl
+left-batch (Unwritten r) b = refl
+
+-- writing a page: the answer, and the lent batch
+pub write-page :
+    (batch : List ℕ) (index : ℕ) (t : Transaction) (x y : PageWrite) (b c : List ℕ) →
+    put x b ≡ writePage batch index t → put y c ≡ writePage batch index t → (x ≡ y) × (b ≡ c)
+write-page batch index t x y b c h k =
+    let e = h ∙ sym k in
+    (one-put x y b c (ap (λ (w : Put). w .answer) e), sym (left-batch x b) ∙ ap (λ (w : Put). w .batch) e ∙ left-batch y c)

@@ -1,22 +1,21 @@
 -- What the two services answer on each way through their code. Assumes nothing.
-use mathlib.Core.Path.{_≡_, refl, sym, ap, _∙_}
-use mathlib.Core.Bool.{Bool, true, false, not, _&&_}
+use mathlib.Core.Path.{_≡_, refl, sym, _∙_}
+use mathlib.Core.Bool.{Bool, true, false}
 use mathlib.Core.List.{List, [], _∷_, _++_}
 use Prim.Native.Nat.{ℕ, zero, suc, _+_, _≤_, _<_, _^_, min}
 use native.Mathlib.Nat.{zero-add}
 use native.Mathlib.Numerals.{add-one}
 use native.Mathlib.Omega.{arith}
-use lib.ListN.{length, set, drop, length-append}
+use lib.ListN.{length, set, length-append}
 use lib.Seq.{sets, sets-eq}
-use lib.Dec.{eqb}
 use lib.IntN.{ℤ, pos, negsuc, negℤ}
-use borrow.Author.Tests.{lt-ltb, le-ltb, le-leb, lt-leb, eq-eqb, ne-eqb}
+use borrow.Author.Tests.{lt-ltb, le-ltb, le-leb, lt-leb, ne-eqb}
 use Rattle.lists.specs.Choice.{pick}
 use Rattle.lists.proofs.Stores.{sets-append}
-use Rattle.refusals.specs.Outcome.{Outcome, gives, refuses}
+use Rattle.refusals.specs.Outcome.{gives, refuses}
 use Rattle.tonnage.specs.declared.figure.Parts.{Parts}
 use Rattle.tonnage.specs.Text.{minus, laid, size, form, figure, signed, beyond, digits, width, below0, tonnes, rest, textOf}
-use Rattle.tonnage.specs.Services.{in64, readText, Written, writeText}
+use Rattle.tonnage.specs.Services.{in64, readText, writeText}
 use Rattle.tonnage.proofs.Laying.{and-false}
 use Rattle.tonnage.proofs.Runs.{length-digits}
 
@@ -52,13 +51,13 @@ module _ (text : List ℕ) where
       unfolding readText form figure
       too-high m h = simp (l, m, le-ltb (size text) (2 ^ 63) (omega arith))
 
-      pub low : minus text ≡ true → 0 < s → s ≤ 9223372036854775808 → readText text ≡ gives (negℤ (pos s))
+      low : minus text ≡ true → 0 < s → s ≤ 9223372036854775808 → readText text ≡ gives (negℤ (pos s))
       unfolding readText form figure
       low m h k =
           let z : size text ≡ s = omega arith in
           simp (l, m, z, ne-eqb s 0 (omega arith), in64-minus s h k)
 
-      pub high : minus text ≡ false → s ≤ 9223372036854775807 → readText text ≡ gives (pos s)
+      high : minus text ≡ false → s ≤ 9223372036854775807 → readText text ≡ gives (pos s)
       unfolding readText form figure
       high m k =
           let z : size text ≡ s = omega arith in
@@ -74,8 +73,11 @@ module _ (text : List ℕ) where
 abbrev pub partsOf : ℤ → Parts
 partsOf z = record { minus = below0 z; tonnes = tonnes z; rest = rest z }
 
+abbrev pub signText : Bool → List ℕ
+signText m = pick m (45 ∷ []) []
+
 abbrev pub signOf : ℤ → List ℕ
-signOf z = pick (below0 z) (45 ∷ []) []
+signOf z = signText (below0 z)
 
 pub sign-length : (z : ℤ) → length (signOf z) ≤ 1
 sign-length (pos n) = omega arith
@@ -99,9 +101,9 @@ module _ (z : ℤ) (buffer : List ℕ) where
       (sets-append buffer 0 (signOf z) (digits w t ++ tail)
       ∙ rw (zero-add, ← e) (sets-append (sets buffer 0 (signOf z)) s (digits w t) tail ∙ rw (length-digits w t, add-one)))))
 
-  pub too-small : length buffer < length (textOf z) → record { answer = refuses 20 0; text = buffer } ≡ writeText buffer z
+  pub too-small : (n : ℕ) → n ≡ length (textOf z) → length buffer < n → record { answer = refuses 20 0; text = buffer } ≡ writeText buffer z
   unfolding writeText
-  too-small h = rw (lt-leb (length (textOf z)) (length buffer) h)
+  too-small n e h = rw (lt-leb (length (textOf z)) (length buffer) (rw e at h))
 
   pub fitting : (n : ℕ) (after : List ℕ) → n ≡ length (textOf z) → n ≤ length buffer → after ≡ sets buffer 0 (textOf z)
       → record { answer = gives n; text = after } ≡ writeText buffer z

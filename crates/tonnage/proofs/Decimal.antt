@@ -1,6 +1,6 @@
 -- Numbers and the runs of digits that write them: each gives the other back. Assumes nothing.
-use mathlib.Core.Path.{_≡_, refl, sym, ap, _∙_}
-use mathlib.Core.Bool.{Bool, true, false, _&&_, false≢true}
+use mathlib.Core.Path.{_≡_, refl, sym, _∙_}
+use mathlib.Core.Bool.{Bool, true, false, _&&_}
 use mathlib.Core.List.{List, [], _∷_, _++_}
 use Prim.Native.Nat.{ℕ, zero, suc, _+_, _-_, _*_, _/_, _%_, _≤_, _<_}
 use native.Mathlib.Nat.{le-refl}
@@ -24,7 +24,7 @@ ends-in P z s (suc k) ds h =
     let last : take (suc k) ds ≡ take k ds ++ (getD ds k 0 ∷ []) = take-suc ds k 0 (omega arith) in
     rw (sym all ∙ last) (s (take k ds) (getD ds k 0) (ends-in P z s k (take k ds) (length-take-le k ds (omega arith))))
 
-pub ends : (P : List ℕ → Type 0) → P [] → ((init : List ℕ) (d : ℕ) → P init → P (init ++ (d ∷ []))) → (ds : List ℕ) → P ds
+ends : (P : List ℕ → Type 0) → P [] → ((init : List ℕ) (d : ℕ) → P init → P (init ++ (d ∷ []))) → (ds : List ℕ) → P ds
 ends P z s ds = ends-in P z s (length ds) ds refl
 
 tens-in : (P : ℕ → Type 0) → ((n : ℕ) → n < 10 → P n) → ((n : ℕ) → 10 ≤ n → P (n / 10) → P n) → (k n : ℕ) → n ≤ k → P n
@@ -35,7 +35,7 @@ tens-in P z s (suc k) n h = go (ltb n 10) refl (tens-in P z s k (n / 10))
     go true e ih = z n (ltb-true n 10 e)
     go false e ih = let m : 10 ≤ n = ltb-false n 10 e in s n m (ih (omega arith))
 
-pub tens : (P : ℕ → Type 0) → ((n : ℕ) → n < 10 → P n) → ((n : ℕ) → 10 ≤ n → P (n / 10) → P n) → (n : ℕ) → P n
+tens : (P : ℕ → Type 0) → ((n : ℕ) → n < 10 → P n) → ((n : ℕ) → 10 ≤ n → P (n / 10) → P n) → (n : ℕ) → P n
 tens P z s n = tens-in P z s n n (le-refl n)
 
 -- ---- runs of digits
@@ -54,7 +54,7 @@ each-append p (c ∷ a) b = rw (each-append p a b) (go (p c))
     go true = refl
     go false = refl
 
-pub each-last : (p : ℕ → Bool) (init : List ℕ) (d : ℕ) → each p (init ++ (d ∷ [])) ≡ true → (each p init ≡ true) × (p d ≡ true)
+each-last : (p : ℕ → Bool) (init : List ℕ) (d : ℕ) → each p (init ++ (d ∷ [])) ≡ true → (each p init ≡ true) × (p d ≡ true)
 each-last p init d e =
     let b = and-both (each p init) (each p (d ∷ [])) (sym (each-append p init (d ∷ [])) ∙ e) in
     (b .0, and-both (p d) true (b .1) .0)
@@ -68,7 +68,7 @@ follow-last : (n : ℕ) (init : List ℕ) (d : ℕ) → follow n (init ++ (d ∷
 unfolding follow
 follow-last n init d = follow-append n init (d ∷ [])
 
-pub follow-least : (n : ℕ) (ds : List ℕ) → n ≤ follow n ds
+follow-least : (n : ℕ) (ds : List ℕ) → n ≤ follow n ds
 unfolding follow
 follow-least n [] = le-refl n
 follow-least n (c ∷ ds) = omega (arith, follow-least (10 * n + (c - 48)) ds)
@@ -170,7 +170,7 @@ unfolding digits follow
 rest-follow n = omega arith
 
 -- its first digit is 0 for 0 alone
-pub first-digit : (n : ℕ) → 0 < n → 48 < getD (digits (width n) n) 0 0
+first-digit : (n : ℕ) → 0 < n → 48 < getD (digits (width n) n) 0 0
 unfolding digits
 first-digit = tens (λ n. 0 < n → 48 < getD (digits (width n) n) 0 0) one more
   where

@@ -1,21 +1,21 @@
 -- The round trips: the texts of the form are exactly those that the writer writes, each of one figure. Assumes nothing.
-use mathlib.Core.Path.{_≡_, refl, sym, ap, ap₂, _∙_}
-use mathlib.Core.Bool.{Bool, true, false, not, true≢false, false≢true}
+use mathlib.Core.Path.{_≡_, refl, sym, ap, _∙_}
+use mathlib.Core.Bool.{Bool, true, false, false≢true}
 use mathlib.Core.Logic.{_↔_}
-use mathlib.Core.List.{List, [], _∷_, _++_}
-use Prim.Native.Nat.{ℕ, zero, suc, _+_, _/_, _%_, _≤_, _<_, _^_}
+use mathlib.Core.List.{List}
+use Prim.Native.Nat.{ℕ, zero, suc, _≤_, _<_, _^_}
 use native.Mathlib.Omega.{arith}
 use lib.ListN.{length}
 use lib.IntN.{ℤ, pos, negsuc, natAbs}
 use borrow.Author.Tests.{ltb-true}
 use Rattle.lists.specs.Choice.{pick}
-use Rattle.refusals.specs.Outcome.{Outcome, gives, refuses}
+use Rattle.refusals.specs.Outcome.{gives, refuses}
 use Rattle.tonnage.specs.Text.{form, figure, signed, follow, digits, widthIn, width, below0, tonnes, rest, textOf}
 use Rattle.tonnage.specs.Services.{in64, readText}
 use Rattle.tonnage.proofs.Runs.{length-digits, width-some, narrow}
 use Rattle.tonnage.proofs.Answers.{length-text, sign-length}
 use Rattle.tonnage.proofs.Decimal.{run-digits, run-width, run-tonnes, digits-each, digits-three, digits-follow, rest-follow, first-lean}
-use Rattle.tonnage.proofs.Spelling.{spell, Spelt, spelt-form, spelt-figure, form-spelt}
+use Rattle.tonnage.proofs.Spelling.{Spelt, spelt-form, spelt-figure, form-spelt}
 
 -- ---- the text of a figure
 

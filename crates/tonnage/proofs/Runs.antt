@@ -1,7 +1,7 @@
 -- Laws of runs of decimal digits: what they write, how many a number has, and how they are stored. Assumes nothing.
 use mathlib.Core.Path.{_≡_, refl, sym, ap, _∙_}
 use mathlib.Core.Bool.{Bool, true, false, _||_, true≢false}
-use mathlib.Core.List.{List, [], _∷_, _++_}
+use mathlib.Core.List.{List, [], _∷_}
 use Prim.Native.Nat.{ℕ, zero, suc, _+_, _-_, _*_, _/_, _%_, _^_, _≤_, _<_, min}
 use native.Mathlib.Nat.{div-lt-iff-lt-mul, pow-suc, le-antisymm}
 use native.Mathlib.Numerals.{add-one}
@@ -11,7 +11,7 @@ use lib.Seq.{sets, slice, slice-cons, slice-empty}
 use lib.Dec.{ltb, lit<}
 use borrow.Author.Tests.{lt-ltb, le-ltb, ltb-true, ltb-false}
 use Rattle.lists.proofs.Stores.{sets-append, set-after}
-use Rattle.tonnage.specs.Text.{follow, digits, widthIn, width, beyond, other}
+use Rattle.tonnage.specs.Text.{follow, digits, widthIn, width, beyond}
 
 -- ---- numbers held at most at `beyond`
 

@@ -1,16 +1,16 @@
 -- The test `form` says what document 01's sentence on tonnage texts says. Assumes nothing.
-use mathlib.Core.Path.{_≡_, refl, sym, ap, _∙_}
-use mathlib.Core.Bool.{Bool, true, false, not, _&&_, false≢true}
+use mathlib.Core.Path.{_≡_, refl, ap, _∙_}
+use mathlib.Core.Bool.{Bool, true, false, not, false≢true}
 use mathlib.Core.Logic.{_↔_, _⊎_, inl, inr, ⊎-elim}
 use mathlib.Core.List.{List, [], _∷_, _++_}
-use Prim.Native.Nat.{ℕ, zero, suc, _≤_, _<_}
+use Prim.Native.Nat.{ℕ, zero, suc, _<_}
 use native.Mathlib.Omega.{arith}
-use lib.ListN.{length}
 use lib.Dec.{T, eqb}
 use Rattle.tonnage.specs.Text.{form, follow}
 use Rattle.tonnage.specs.Grammar.{each, digit, Tonnage}
+use Rattle.tonnage.proofs.Answers.{signText}
 use Rattle.tonnage.proofs.Decimal.{each-append, follow-append, zeros-follow, follow-zeros}
-use Rattle.tonnage.proofs.Spelling.{signText, Spelt, spelt-form, form-spelt}
+use Rattle.tonnage.proofs.Spelling.{Spelt, spelt-form, form-spelt}
 
 holds : (b : Bool) → T b → b ≡ true
 holds true t = refl

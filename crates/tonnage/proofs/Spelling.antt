@@ -7,9 +7,9 @@ use native.Mathlib.Nat.{add-zero}
 use native.Mathlib.Numerals.{add-one}
 use native.Mathlib.Omega.{arith}
 use lib.ListN.{length, getD, take, drop, length-append, take-append-drop, List·getD-append}
-use lib.Seq.{slice, slice-empty, slice-cons, length-slice, take-length, take-at, drop-at, getD-at, getD-append-add, take-take, drop-cons, getD-take, getD-drop}
+use lib.Seq.{slice, slice-empty, slice-cons, length-slice, take-length, take-at, drop-at, getD-at, getD-append-add, take-take, drop-cons}
 use lib.Dec.{eqb}
-use borrow.Author.Tests.{eqb-true, eqb-false, ne-eqb, not-true, not-false}
+use borrow.Author.Tests.{eqb-true, eqb-false, ne-eqb, not-true}
 use Rattle.lists.specs.Choice.{pick}
 use Rattle.lists.specs.Search.{firstIn}
 use Rattle.lists.proofs.Searches.{miss, done, passed}
@@ -17,6 +17,7 @@ use Rattle.tonnage.specs.Text.{minus, start, point, other, follow, size,
 use Rattle.tonnage.specs.Grammar.{each, digit}
 use Rattle.tonnage.proofs.Runs.{digit-range, no-other}
 use Rattle.tonnage.proofs.Laying.{and-both, Laid, laid-facts, facts-laid}
+use Rattle.tonnage.proofs.Answers.{signText}
 use Rattle.tonnage.proofs.Decimal.{digit-in, in-digit}
 
 -- ---- searches for another character than a digit
@@ -38,9 +39,6 @@ each-passed (suc k) i to text e h d =
     rw (miss (other text) i to l (no-other (getD text i 0) (r .0) (r .1)), add-one) (each-passed k (suc i) to text (omega arith) h (b .1))
 
 -- ---- the parts of a spelt text
-
-abbrev pub signText : Bool → List ℕ
-signText m = pick m (45 ∷ []) []
 
 abbrev pub spell : Bool → List ℕ → List ℕ → List ℕ
 spell m whole part = signText m ++ (whole ++ (44 ∷ part))
@@ -107,7 +105,7 @@ pub record Spelt (m : Bool) (whole part text : List ℕ) : Type 0 where
   pub part-digits : each digit part ≡ true
   pub above-zero : m ≡ true → 0 < follow (follow 0 whole) part
 
-pub first-digit-of : (whole : List ℕ) → 0 < length whole → each digit whole ≡ true → 48 ≤ getD whole 0 0
+first-digit-of : (whole : List ℕ) → 0 < length whole → each digit whole ≡ true → 48 ≤ getD whole 0 0
 first-digit-of [] h d = absurd (omega arith)
 first-digit-of (c ∷ cs) h d = digit-in c (and-both (digit c) (each digit cs) d .0) .0
 

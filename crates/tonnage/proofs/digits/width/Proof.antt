@@ -1,5 +1,5 @@
 -- `width`: one digit counted in each turn. Invariant: the digits counted and those of what is left are those of n, and one more.
-use Prim.Native.Nat.{_≤_, _<_, _-_, _+_}
+use Prim.Native.Nat.{_<_, _+_}
 use mathlib.Core.Path.{_≡_}
 use native.Mathlib.Omega.{arith}
 use borrow.Author.Needs.{needs}

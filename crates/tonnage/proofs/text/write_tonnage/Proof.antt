@@ -1,9 +1,9 @@
 -- `write_tonnage`: four stores, which are one run from the front.
 use mathlib.Core.Path.{_≡_, sym, ap, _∙_}
 use mathlib.Core.Logic.{⊎-elim}
-use native.Mathlib.Omega.{arith}
 use mathlib.Core.List.{List}
 use Prim.Native.Nat.{ℕ, _+_}
+use native.Mathlib.Omega.{arith}
 use lib.IntN.{ℤ}
 use lib.ListN.{length, length-set}
 use lib.Seq.{sets, length-sets}
@@ -83,7 +83,7 @@ add-length : tie.Need-add-length
 add-length c = omega (arith, start-is (c .before .before), sign-length (figure (c .before .before .before)), c .before .width .ensures .1)
 
 returns : tie.Need-returns
-returns c = too-small _ _ (rw (length-is (c .before .before)) at (c .if2 .taken))
+returns c = too-small _ _ _ (length-is (c .before .before)) (c .if2 .taken)
 
 slice-write-text : tie.Need-slice-write-text
 slice-write-text c = search needs

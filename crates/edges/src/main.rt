@@ -1,4 +1,5 @@
 // Runs the cases of document 01 that are not in the proved table, and others at each edge: a line for each group, with how many came out right.
+mod pages;
 mod tally;
 mod texts;
 
@@ -8,4 +9,15 @@ fn main() {
     tally::show(b"tonnage text, hundreds of digits: ", texts::long());
     tally::show(b"tonnage text, written: ", texts::written());
     tally::show(b"tonnage text, each length of buffer: ", texts::buffers());
+    tally::show(b"pages, read and written: ", pages::round());
+    tally::show(
+        b"pages, each fault alone and with each higher one: ",
+        pages::faults(),
+    );
+    tally::show(b"pages, both sides of each bound: ", pages::bounds());
+    tally::show(
+        b"pages, each fault of a transaction to be written: ",
+        pages::spoils(),
+    );
+    tally::show(b"pages, counts and room: ", pages::counts());
 }

@@ -3,8 +3,14 @@ pub mod Signed
 pub mod Turns
 pub mod OnPage
 pub mod Stored
+pub mod Fields
+pub mod Parts
 pub mod Laid
 pub mod Valued
 pub mod Placed
 pub mod Faults
+pub mod Exact
+pub mod Noticed
+pub mod Back
+pub mod Cases
 pub mod Pages

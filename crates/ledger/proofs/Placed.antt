@@ -1,11 +1,13 @@
 -- A page in its place in a batch. Assumes nothing.
-use mathlib.Core.Path.{_≡_}
-use mathlib.Core.List.{List, _++_}
-use Prim.Native.Nat.{ℕ, _+_, _-_, _≤_}
+use mathlib.Core.Path.{_≡_, sym, ap, ap₂, _∙_}
+use mathlib.Core.List.{List, _++_, append-assoc}
+use Prim.Native.Nat.{ℕ, _+_, _-_, _*_, _≤_, _<_}
 use native.Mathlib.Nat.{add-sub-cancel-left}
+use native.Mathlib.Decide.{decLt}
 use native.Mathlib.Omega.{arith}
-use lib.ListN.{length, take, drop, length-take, length-drop}
-use lib.Seq.{drop-drop}
+use lib.ListN.{length, getD, take, drop, length-append, length-take, length-drop, List·getD-append}
+use lib.Seq.{drop-drop, drop-at, take-at, length-take-le, getD-take, getD-drop, getD-append-add, ext-getD}
+use Rattle.ledger.specs.Page.{pageAt, placed}
 
 -- the part of the batch that is lent on, and the whole when it has come back
 pub part-long : (b : List ℕ) (a : ℕ) → a + 512 ≤ length b → length (take (a + 512 - a) (drop a b)) ≡ 512
@@ -13,3 +15,44 @@ part-long b a h = simp (length-take, length-drop) (omega arith)
 
 pub part-back : (b ys : List ℕ) (a : ℕ) → take a b ++ (ys ++ drop (a + 512 - a) (drop a b)) ≡ take a b ++ (ys ++ drop (a + 512) b)
 part-back b ys a = rw (add-sub-cancel-left a 512, drop-drop 512 a b)
+
+-- ---- "every byte of the batch outside that page stays"
+
+module _ (batch page : List ℕ) (i : ℕ) (long : length page ≡ 512) (inside : i * 512 + 512 ≤ length batch) where
+  before : length (take (i * 512) batch) ≡ i * 512
+  before = length-take-le (i * 512) batch (omega arith)
+
+  pub placed-here : pageAt (placed batch i page) i ≡ page
+  placed-here =
+      rw (drop-at (take (i * 512) batch) (page ++ drop (i * 512 + 512) batch) (i * 512) before)
+      (take-at page (drop (i * 512 + 512) batch) 512 long)
+
+  pub placed-long : length (placed batch i page) ≡ length batch
+  placed-long = simp (length-append, length-drop, before, long) (omega arith)
+
+  pub placed-before : (k : ℕ) → k < i * 512 → getD (placed batch i page) k 0 ≡ getD batch k 0
+  placed-before k h =
+      List·getD-append (take (i * 512) batch) (page ++ drop (i * 512 + 512) batch) 0 k (rw before h) ∙ getD-take (i * 512) batch k 0 h
+
+  pub placed-after : (k : ℕ) → i * 512 + 512 ≤ k → getD (placed batch i page) k 0 ≡ getD batch k 0
+  placed-after k h =
+      let a = take (i * 512) batch ++ page in
+      let l : length a ≡ i * 512 + 512 = simp (length-append, before, long) in
+      let n = k - (i * 512 + 512) in
+      let e : k ≡ length a + n = omega arith in
+      let f : i * 512 + 512 + n ≡ k = omega arith in
+      ap₂ (λ q m. getD q m 0) (sym (append-assoc (take (i * 512) batch) page (drop (i * 512 + 512) batch))) e
+      ∙ getD-append-add a (drop (i * 512 + 512) batch) n 0
+      ∙ getD-drop (i * 512 + 512) batch n 0
+      ∙ ap (λ m. getD batch m 0) f
+
+  -- so does every other page
+  pub placed-other : (j : ℕ) → (j ≡ i → ⊥) → pageAt (placed batch i page) j ≡ pageAt batch j
+  placed-other j h =
+      let n : length (pageAt (placed batch i page) j) ≡ length (pageAt batch j) = simp (length-take, length-drop, placed-long) in
+      ext-getD 0 _ _ n (λ k l.
+      let m : k < 512 = omega (arith, simp (length-take, length-drop) at l) in
+      getD-take 512 (drop (j * 512) (placed batch i page)) k 0 m
+      ∙ getD-drop (j * 512) (placed batch i page) k 0
+      ∙ elim (decLt j i) [ yes s ↦ placed-before (j * 512 + k) (omega arith) | no g ↦ placed-after (j * 512 + k) (omega arith) ]
+      ∙ sym (getD-take 512 (drop (j * 512) batch) k 0 m ∙ getD-drop (j * 512) batch k 0))

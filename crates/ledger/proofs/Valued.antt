@@ -3,10 +3,10 @@ use mathlib.Core.Path.{_≡_, sym, ap, ap₂, _∙_}
 use mathlib.Core.List.{List, _++_, map}
 use Prim.Native.Nat.{ℕ, _-_, _≤_, _<_}
 use lib.ListN.{length, replicate, length-map}
-use lib.Seq.{getD-take, length-take-le}
+use lib.Seq.{getD-take, length-take-le, take-append-seam}
 use Rattle.ledger.specs.declared.Transaction.{Transaction}
 use Rattle.ledger.specs.Bytes.{le, weighed}
-use Rattle.ledger.specs.Tx.{noRead, noWrite, readOf, writeOf, valueTx}
+use Rattle.ledger.specs.Tx.{Tx, padded, noRead, noWrite, readOf, writeOf, valueTx}
 use Rattle.ledger.specs.Page.{size, headBytes, readBytes, writeBytes, bodyOf, pageOf}
 use Rattle.ledger.proofs.Stored.{flat-same}
 use Rattle.ledger.proofs.Laid.{body, whole}
@@ -51,3 +51,17 @@ module _ (t : Transaction) (has-reads : t .r ≤ length (t .reads)) (has-writes 
 -- an array of the program has its type's length
 pub sized : {X D : Type 0} (to : X → D) (xs : List X) (n : ℕ) → length (map to xs) ≡ n → length xs ≡ n
 sized to xs n e = sym (length-map xs to) ∙ e
+
+-- ---- up to the entries beyond the counts
+
+pub value-padded : (x : Tx) → valueTx (padded x) ≡ x
+unfolding valueTx padded
+value-padded x = λ i. record {
+  ticket = x .ticket;
+  reads = take-append-seam (x .reads) (replicate (32 - length (x .reads)) noRead) i;
+  writes = take-append-seam (x .writes) (replicate (32 - length (x .writes)) noWrite) i;
+}
+
+-- zeros beyond the counts keep what the counts see
+pub padded-value : (t : Transaction) → valueTx (padded (valueTx t)) ≡ valueTx t
+padded-value t = value-padded (valueTx t)

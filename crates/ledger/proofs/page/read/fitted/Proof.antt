@@ -12,7 +12,6 @@ use denote.Array.{each}
 use Rattle.ledger.specs.Tx.{noRead, noWrite, ReadFits, WriteFits}
 use Rattle.ledger.proofs.page.read.fitted.Statement.{statement}
 use Rattle.ledger.proofs.page.read.fitted.Tie as tie
-use Rattle.ledger.proofs.page.read.fitted.Reads as reads
 
 get : {X D : Type 0} (to : X → D) (f : D → List Val → Fml) (P : X → Type 0) → ((x : X) (vs : List Val) → shadow (f (to x) vs) → P x)
     → (z : X) → P z → (xs : List X) (us : List Val) (i : ℕ) → shadow (each D f (map to xs) us) → P (getD xs i z)

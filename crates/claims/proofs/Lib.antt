@@ -1,3 +1,5 @@
+pub mod Outcomes
+pub mod Pages
 pub mod Table
 pub mod Texts
 pub mod Unique

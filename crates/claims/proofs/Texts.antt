@@ -19,22 +19,8 @@ use Rattle.tonnage.specs.Services.{in64, readText, Written, writeText}
 use Rattle.tonnage.proofs.RoundTrip.{accepted-written, written-accepted}
 use Rattle.tonnage.proofs.Sentence.{grammar-form}
 use Rattle.claims.specs.Ascii.{ascii}
+use Rattle.claims.proofs.Outcomes.{apart, value, number, place}
 use Rattle.claims.proofs.Table.{cases}
-
--- ---- outcomes told apart
-
-module _ {A : Type 0} {o : Outcome A} where
-  apart : {a : A} {n p : ℕ} → o ≡ gives a → o ≡ refuses n p → ⊥
-  apart e f = let z : _≡_ {A = ℕ} 0 1 = cc in omega arith
-
-  value : {a b : A} → o ≡ gives a → o ≡ gives b → a ≡ b
-  value e f = cc
-
-  number : {m p n q : ℕ} → o ≡ refuses m p → o ≡ refuses n q → m ≡ n
-  number e f = cc
-
-  place : {m p n q : ℕ} → o ≡ refuses m p → o ≡ refuses n q → p ≡ q
-  place e f = cc
 
 -- ---- reading: demand 1, "A refusal carries the number that document 01 gives it, exactly when 01 says"
 

@@ -1,0 +1,140 @@
+-- Demand 2 for pages: the round trips, and what the check notices. Assumes nothing.
+use Prim.Native.Nat.{ℕ, _+_, _*_, _/_, _^_, _<_, _≤_}
+use native.Mathlib.Omega.{arith}
+use mathlib.Core.Bool.{Bool, true, false, not, true≢false}
+use mathlib.Core.List.{List, [], _∷_}
+use mathlib.Core.Logic.{_⊎_, inl, inr, ⊎-elim}
+use mathlib.Core.Path.{_≡_, refl, sym, ap, ap₂, _∙_}
+use lib.ListN.{length, getD, set}
+use lib.Dec.{eqb, ltb}
+use borrow.Author.Tests.{eqb-true, eqb-false, ltb-true, lt-ltb, eq-eqb}
+use Rattle.refusals.specs.Outcome.{Outcome, gives, refuses}
+use Rattle.ledger.specs.declared.Transaction.{Transaction}
+use Rattle.ledger.specs.Bytes.{Small, tab, weighed}
+use Rattle.ledger.specs.Tx.{Tx, valueTx, padded, TransactionFits}
+use Rattle.ledger.specs.Page.{_then_, fault, countFault, entryFault, pageTx, pageOf, pageFault, pageAt, placed}
+use Rattle.ledger.specs.Services.{Counts, checkPage, Taken, readPage, Put, writeFault, writePage}
+use Rattle.ledger.proofs.Back.{page-back}
+use Rattle.ledger.proofs.Exact.{page-exact}
+use Rattle.ledger.proofs.Faults as faults
+use Rattle.ledger.proofs.OnPage as on
+use Rattle.ledger.proofs.Noticed as noticed
+use Rattle.ledger.proofs.Numbers as numbers
+use Rattle.ledger.proofs.Pages.{empty-good, good-counted}
+use Rattle.ledger.proofs.Placed as place
+use Rattle.ledger.proofs.Valued.{value-padded}
+use Rattle.claims.proofs.Outcomes.{apart}
+
+-- the counts of a transaction
+abbrev counts : Tx → Counts
+counts x = record { reads = length (x .reads); writes = length (x .writes) }
+
+-- a page that is taken has no fault, and one without a fault is taken
+taken-good : (p : List ℕ) (c : Counts) → readPage p .answer ≡ gives c → pageFault p ≡ 0
+unfolding readPage
+taken-good p c e = faults.taken-none p c (sym e)
+
+good-taken : (p : List ℕ) → pageFault p ≡ 0 → readPage p ≡ record { answer = gives (counts (pageTx p)); transaction = padded (pageTx p) }
+good-taken p e =
+    sym (faults.read-taken p e)
+    ∙ ap (λ (o : Outcome Counts). record { answer = o; transaction = padded (pageTx p) }) (sym (faults.check-taken p _ _ refl refl e))
+
+unnot : (b : Bool) → not b ≡ false → b ≡ true
+unnot true e = refl
+unnot false e = absurd (true≢false e)
+
+both : {a b : ℕ} → a ≡ 0 → b ≡ 0 → a then b ≡ 0
+both {a} {b} h k = faults.then-rest a b h ∙ k
+
+-- ---- "Pages .. read back as written"
+
+module _ (batch : List ℕ) (index : ℕ) (t : Transaction) where
+  abbrev wrong : ℕ
+  wrong = writeFault t index (length batch / 512)
+
+  -- a page that is written had no fault
+  written-good : writePage batch index t .answer ≡ gives tt → wrong ≡ 0
+  written-good e = go (eqb wrong 0) refl
+    where
+      go : (b : Bool) → eqb wrong 0 ≡ b → wrong ≡ 0
+      go true h = eqb-true wrong 0 h
+      go false h = absurd (apart e (sym (ap (λ (w : Put). w .answer) (faults.write-refused batch index t wrong (eqb-false wrong 0 h) refl))))
+
+  -- no fault of the counts, of the entries, of the index
+  split : wrong ≡ 0 → (countFault (t .r) (t .w) ≡ 0) × (entryFault (valueTx t) ≡ 0) × (index < length batch / 512)
+  unfolding writeFault
+  split g =
+      let a = faults.then-none (countFault (t .r) (t .w)) _ g in
+      let b = faults.then-none (entryFault (valueTx t)) _ (a .1) in
+      (a .0, b .0, ltb-true index (length batch / 512) (unnot _ (faults.fault-none 16 _ (b .1))))
+
+  -- what is written at a page index reads back from there as it was, up to the entries beyond the counts
+  pub reads-back :
+      TransactionFits t → writePage batch index t .answer ≡ gives tt →
+      readPage (pageAt (writePage batch index t .batch) index) ≡ record { answer = gives (counts (valueTx t)); transaction = padded (valueTx t) }
+  reads-back fits e =
+      let g = written-good e in
+      let parts = split g in
+      let back = page-back t fits (both (parts .0) (parts .1)) in
+      let b = sym (ap (λ (w : Put). w .batch) (faults.write-done batch index t g)) in
+      let p = ap (λ (l : List ℕ). pageAt l index) b ∙ place.placed-here batch (pageOf (valueTx t)) index (good-counted (pageOf (valueTx t)) (back .0) .whole) (omega (arith, parts .2)) in
+      ap readPage p ∙ good-taken (pageOf (valueTx t)) (back .0) ∙ ap (λ (x : Tx). record { answer = gives (counts x); transaction = padded x }) (back .1)
+
+  -- "every byte of the batch outside that page stays"
+  pub outside : TransactionFits t → (k : ℕ) → (k < index * 512) ⊎ (index * 512 + 512 ≤ k) → getD (writePage batch index t .batch) k 0 ≡ getD batch k 0
+  outside fits k h = go (eqb wrong 0) refl
+    where
+      go : (b : Bool) → eqb wrong 0 ≡ b → getD (writePage batch index t .batch) k 0 ≡ getD batch k 0
+      go true g =
+          let parts = split (eqb-true wrong 0 g) in
+          let long = good-counted (pageOf (valueTx t)) (page-back t fits (both (parts .0) (parts .1)) .0) .whole in
+          let inside : index * 512 + 512 ≤ length batch = omega (arith, parts .2) in
+          ap (λ (l : List ℕ). getD l k 0) (sym (ap (λ (w : Put). w .batch) (faults.write-done batch index t (eqb-true wrong 0 g))))
+          ∙ ⊎-elim
+          (place.placed-before batch (pageOf (valueTx t)) index long inside k)
+          (place.placed-after batch (pageOf (valueTx t)) index long inside k)
+          h
+      go false g = ap (λ (l : List ℕ). getD l k 0) (sym (ap (λ (w : Put). w .batch) (faults.write-refused batch index t wrong (eqb-false wrong 0 g) refl)))
+
+-- "and one that is accepted is exactly what our writer would write"
+pub accepted :
+    (p : List ℕ) (c : Counts) → Small p → readPage p .answer ≡ gives c →
+    (batch : List ℕ) (index : ℕ) → index < length batch / 512 →
+    writePage batch index (readPage p .transaction) ≡ record { answer = gives tt; batch = placed batch index p }
+accepted p c small e batch index h =
+    let g = taken-good p c e in
+    let x : Tx = pageTx p in
+    let s = faults.sound p g in
+    let v = value-padded x in
+    let lengths : countFault (padded x .r) (padded x .w) ≡ 0 = unfold padded in (rw (on.count-reads p, on.count-writes p) (s .head .counts)) in
+    let none : writeFault (padded x) index (length batch / 512) ≡ 0 =
+    faults.wrong-index batch index (padded x) lengths (ap entryFault v ∙ s .entries) ∙ ap (λ (b : Bool). fault 17 (not b)) (lt-ltb index (length batch / 512) h) in
+    ap (λ (t : Transaction). writePage batch index t) (ap (λ (k : Taken). k .transaction) (good-taken p g))
+    ∙ sym (faults.write-done batch index (padded x) none)
+    ∙ ap (λ (l : List ℕ). record { answer = gives tt; batch = placed batch index l }) (ap pageOf v ∙ page-exact p small g)
+
+-- ---- what the check notices
+
+-- "It is at most 32,967,930."
+pub check-most : (p : List ℕ) → Small p → weighed p 508 ≤ 32967930
+check-most = numbers.check-most
+
+-- "A change of any one byte of the page is therefore noticed"
+pub one-byte :
+    (p : List ℕ) (c d : Counts) → Small p → readPage p .answer ≡ gives c →
+    (i b : ℕ) → i < 512 → b < 256 → (b ≡ getD p i 0 → ⊥) → readPage (set p i b) .answer ≡ gives d → ⊥
+one-byte p c d small e i b h k n f = noticed.one-byte p small (taken-good p c e) i b h k n (taken-good (set p i b) d f)
+
+-- "and so is an exchange of two unequal bytes within 0 to 507"
+pub exchange :
+    (p : List ℕ) (c d : Counts) → Small p → readPage p .answer ≡ gives c →
+    (i j : ℕ) → i < 508 → j < 508 → (getD p i 0 ≡ getD p j 0 → ⊥) →
+    readPage (set (set p i (getD p j 0)) j (getD p i 0)) .answer ≡ gives d → ⊥
+exchange p c d small e i j h k n f =
+    noticed.exchange p small (taken-good p c e) i j h k n (taken-good (set (set p i (getD p j 0)) j (getD p i 0)) d f)
+
+-- "A page with no reads and no writes is good."
+pub empty-page :
+    (ticket : ℕ) → ticket < 2 ^ 32 →
+    readPage (pageOf (record { ticket = ticket; reads = []; writes = [] })) .answer ≡ gives (counts (pageTx (pageOf (record { ticket = ticket; reads = []; writes = [] }))))
+empty-page ticket h = ap (λ (k : Taken). k .answer) (good-taken _ (empty-good ticket h))

@@ -87,6 +87,31 @@ head-counted p e =
     let n = roomy _ _ (g .counts) in
     record { whole = g .long; few-reads = n .few-reads; few-writes = n .few-writes; room = n .room }
 
+-- the first of its faults
+module _ (p : List ℕ) where
+  pub is-one : (length p ≡ 512 → ⊥) → 1 ≡ headFault p
+  unfolding headFault
+  is-one h = rw (ne-eqb _ _ h)
+
+  module _ (long : length p ≡ 512) where
+    pub is-two : (weighed p 508 ≡ field p 508 4 → ⊥) → 2 ≡ headFault p
+    unfolding headFault
+    is-two h = rw (eq-eqb _ _ long, ne-eqb _ _ h)
+
+    module _ (sum : weighed p 508 ≡ field p 508 4) where
+      pub is-mark : (getD p 0 0 ≡ 0x54 → ⊥) → 3 ≡ headFault p
+      unfolding headFault
+      is-mark h = rw (eq-eqb _ _ long, eq-eqb _ _ sum, ne-eqb _ _ h)
+
+      module _ (mark : getD p 0 0 ≡ 0x54) where
+        pub is-three : (getD p 3 0 ≡ 0 → ⊥) → 3 ≡ headFault p
+        unfolding headFault
+        is-three h = rw (eq-eqb _ _ long, eq-eqb _ _ sum, eq-eqb _ _ mark, ne-eqb _ _ h)
+
+        pub is-counts : getD p 3 0 ≡ 0 → countFault (readCount p) (writeCount p) ≡ headFault p
+        unfolding headFault
+        is-counts h = rw (eq-eqb _ _ long, eq-eqb _ _ sum, eq-eqb _ _ mark, eq-eqb _ _ h)
+
 -- ---- 6 to 9
 
 -- what a search found, against the count

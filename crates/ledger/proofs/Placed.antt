@@ -1,5 +1,5 @@
 -- A page in its place in a batch. Assumes nothing.
-use mathlib.Core.Path.{_≡_, sym, ap, ap₂, _∙_}
+use mathlib.Core.Path.{_≡_, sym, ap, _∙_}
 use mathlib.Core.List.{List, _++_, append-assoc}
 use Prim.Native.Nat.{ℕ, _+_, _-_, _*_, _≤_, _<_}
 use native.Mathlib.Nat.{add-sub-cancel-left}
@@ -17,6 +17,16 @@ pub part-back : (b ys : List ℕ) (a : ℕ) → take a b ++ (ys ++ drop (a + 512
 part-back b ys a = rw (add-sub-cancel-left a 512, drop-drop 512 a b)
 
 -- ---- "every byte of the batch outside that page stays"
+
+-- past a front that was put in the place of another of its length
+getD-past : (a b : List ℕ) (m k : ℕ) → length a ≡ m → m ≤ k → getD (a ++ drop m b) k 0 ≡ getD b k 0
+getD-past a b m k e h =
+    let f : k ≡ length a + (k - m) = omega arith in
+    let g : m + (k - m) ≡ k = omega arith in
+    ap (λ n. getD (a ++ drop m b) n 0) f
+    ∙ getD-append-add a (drop m b) (k - m) 0
+    ∙ getD-drop m b (k - m) 0
+    ∙ ap (λ n. getD b n 0) g
 
 module _ (batch page : List ℕ) (i : ℕ) (long : length page ≡ 512) (inside : i * 512 + 512 ≤ length batch) where
   before : length (take (i * 512) batch) ≡ i * 512
@@ -36,15 +46,8 @@ module _ (batch page : List ℕ) (i : ℕ) (long : length page ≡ 512) (inside 
 
   pub placed-after : (k : ℕ) → i * 512 + 512 ≤ k → getD (placed batch i page) k 0 ≡ getD batch k 0
   placed-after k h =
-      let a = take (i * 512) batch ++ page in
-      let l : length a ≡ i * 512 + 512 = simp (length-append, before, long) in
-      let n = k - (i * 512 + 512) in
-      let e : k ≡ length a + n = omega arith in
-      let f : i * 512 + 512 + n ≡ k = omega arith in
-      ap₂ (λ q m. getD q m 0) (sym (append-assoc (take (i * 512) batch) page (drop (i * 512 + 512) batch))) e
-      ∙ getD-append-add a (drop (i * 512 + 512) batch) n 0
-      ∙ getD-drop (i * 512 + 512) batch n 0
-      ∙ ap (λ m. getD batch m 0) f
+      rw (← append-assoc (take (i * 512) batch) page (drop (i * 512 + 512) batch))
+      (getD-past (take (i * 512) batch ++ page) batch (i * 512 + 512) k (simp (length-append, before, long)) h)
 
   -- so does every other page
   pub placed-other : (j : ℕ) → (j ≡ i → ⊥) → pageAt (placed batch i page) j ≡ pageAt batch j

@@ -27,11 +27,11 @@ fn first_read_key(page: &[u8]) -> usize
     let mut floor: u32 = 0;
     let mut i = 0;
     while i < n {
-        let x = held::read(page, i);
-        if entry::key_wrong(floor, x.key) {
+        let read = held::read(page, i);
+        if entry::key_wrong(floor, read.key) {
             return i;
         }
-        floor = (x.key as u32) + 1;
+        floor = (read.key as u32) + 1;
         i += 1;
     }
     n
@@ -45,8 +45,8 @@ fn first_version(page: &[u8]) -> usize
     let n = held::reads(page);
     let mut i = 0;
     while i < n {
-        let x = held::read(page, i);
-        let version = x.version;
+        let read = held::read(page, i);
+        let version = read.version;
         if entry::version_wrong(version) {
             return i;
         }
@@ -64,11 +64,11 @@ fn first_write_key(page: &[u8]) -> usize
     let mut floor: u32 = 0;
     let mut i = 0;
     while i < n {
-        let x = held::write(page, i);
-        if entry::key_wrong(floor, x.key) {
+        let write = held::write(page, i);
+        if entry::key_wrong(floor, write.key) {
             return i;
         }
-        floor = (x.key as u32) + 1;
+        floor = (write.key as u32) + 1;
         i += 1;
     }
     n
@@ -82,8 +82,8 @@ fn first_kind(page: &[u8]) -> usize
     let n = held::writes(page);
     let mut i = 0;
     while i < n {
-        let x = held::write(page, i);
-        if entry::kind_wrong(x) {
+        let write = held::write(page, i);
+        if entry::kind_wrong(write) {
             return i;
         }
         i += 1;

@@ -4,13 +4,13 @@ use Rattle.ledger.proofs.entry.kind_wrong.Statement.{statement}
 use Rattle.ledger.proofs.entry.kind_wrong.Tie as tie
 
 returns : tie.Need-returns
-returns c = rw (eq-eqb _ _ (c .if1 .taken))
+returns c = rw (eq-eqb _ 0 (c .if1 .taken))
 
 returns-2 : tie.Need-returns-2
-returns-2 c = rw (ne-eqb _ _ (c .before .before .if1 .left), ne-eqb _ _ (c .if2 .taken))
+returns-2 c = rw (ne-eqb _ 0 (c .before .before .if1 .left), ne-eqb _ 1 (c .if2 .taken))
 
 returns-3 : tie.Need-returns-3
-returns-3 c = rw (ne-eqb _ _ (c .before .before .before .before .if1 .left), eq-eqb _ _ (c .before .before .if2 .left))
+returns-3 c = rw (ne-eqb _ 0 (c .before .before .before .before .if1 .left), eq-eqb _ 1 (c .before .before .if2 .left))
 
 pub kind-wrong-spec : {M : Type 1} → statement M
 kind-wrong-spec = tie.close (tie.spec returns returns-2 returns-3)

@@ -1,17 +1,29 @@
 -- `head_fault`: the tests in turn.
+use mathlib.Core.Path.{_≡_, sym, _∙_}
 use native.Mathlib.Omega.{arith}
 use borrow.Author.Needs.{needs}
-use Rattle.ledger.specs.Page.{headFault}
-use borrow.Author.Tests.{eq-eqb, ne-eqb}
+use denote.Ref.{now}
+use lib.ListN.{length, getD}
+use Rattle.ledger.specs.Bytes.{field, weighed}
+use Rattle.ledger.proofs.Faults.{is-one, is-two, is-mark, is-three, is-counts}
 use Rattle.ledger.proofs.page.check.head_fault.Statement.{statement}
 use Rattle.ledger.proofs.page.check.head_fault.Tie as tie
 
+-- what the tests before say
+long : (c : tie.Else1) → length (now (c .before .before .args .page)) ≡ 512
+long c = c .if1 .left
+
+weight : (c : tie.After-weigh) → c .weigh .result ≡ weighed (now (c .before .before .before .args .page)) 508
+weight c = c .weigh .ensures
+
+sum : (c : tie.Else2) → let p = now (c .before .before .before .before .before .args .page) in weighed p 508 ≡ field p 508 4
+sum c = sym (weight (c .before .before)) ∙ c .if2 .left ∙ c .before .le4 .ensures
+
+mark : (c : tie.Else3) → getD (now (c .before .before .before .before .before .before .before .args .page)) 0 0 ≡ 0x54
+mark c = c .if3 .left
+
 returns : tie.Need-returns
-unfolding headFault
-returns c =
-    rw (
-    ne-eqb _ _ (c .if1 .taken)
-    )
+returns c = is-one _ (c .if1 .taken)
 
 weigh-requires : tie.Need-weigh-requires
 weigh-requires c κs = search needs
@@ -20,43 +32,26 @@ le4-requires : tie.Need-le4-requires
 le4-requires c κs = search needs
 
 returns-2 : tie.Need-returns-2
-unfolding headFault
 returns-2 c =
-    rw (
-      eq-eqb _ _ (c .before .before .before .if1 .left),
-      ← c .before .before .weigh .ensures,
-      ← c .before .le4 .ensures,
-      ne-eqb _ _ (c .if2 .taken),
-    )
+    let l = c .before in
+    is-two _ (long (l .before .before)) (λ e. c .if2 .taken (weight (l .before) ∙ e ∙ sym (l .le4 .ensures)))
 
 shared-slice-read-if3 : tie.Need-shared-slice-read-if3
 shared-slice-read-if3 c = search needs
 
 returns-3 : tie.Need-returns-3
-unfolding headFault
 returns-3 c =
-    rw (
-      eq-eqb _ _ (c .before .before .before .before .before .if1 .left),
-      ← c .before .before .before .before .weigh .ensures,
-      ← c .before .before .before .le4 .ensures,
-      eq-eqb _ _ (c .before .before .if2 .left),
-      ne-eqb _ _ (c .if3 .taken),
-    )
+    let e = c .before .before in
+    is-mark _ (long (e .before .before .before)) (sum e) (c .if3 .taken)
 
 shared-slice-read-if4 : tie.Need-shared-slice-read-if4
 shared-slice-read-if4 c = search needs
 
 returns-4 : tie.Need-returns-4
-unfolding headFault
 returns-4 c =
-    rw (
-      eq-eqb _ _ (c .before .before .before .before .before .before .before .if1 .left),
-      ← c .before .before .before .before .before .before .weigh .ensures,
-      ← c .before .before .before .before .before .le4 .ensures,
-      eq-eqb _ _ (c .before .before .before .before .if2 .left),
-      eq-eqb _ _ (c .before .before .if3 .left),
-      ne-eqb _ _ (c .if4 .taken),
-    )
+    let m = c .before .before in
+    let e = m .before .before in
+    is-three _ (long (e .before .before .before)) (sum e) (mark m) (c .if4 .taken)
 
 shared-slice-read-count-fault : tie.Need-shared-slice-read-count-fault
 shared-slice-read-count-fault c = search needs
@@ -74,16 +69,11 @@ count-fault-requires : tie.Need-count-fault-requires
 count-fault-requires c κs = search needs
 
 returns-5 : tie.Need-returns-5
-unfolding headFault
 returns-5 c =
-    rw (
-      eq-eqb _ _ (c .before .before .before .before .before .before .before .before .before .before .if1 .left),
-      ← c .before .before .before .before .before .before .before .before .before .weigh .ensures,
-      ← c .before .before .before .before .before .before .before .before .le4 .ensures,
-      eq-eqb _ _ (c .before .before .before .before .before .before .before .if2 .left),
-      eq-eqb _ _ (c .before .before .before .before .before .if3 .left),
-      eq-eqb _ _ (c .before .before .before .if4 .left),
-    ) (c .count-fault .ensures)
+    let z = c .before .before .before in
+    let m = z .before .before in
+    let e = m .before .before in
+    c .count-fault .ensures ∙ is-counts _ (long (e .before .before .before)) (sum e) (mark m) (z .if4 .left)
 
 pub head-fault-spec : {M : Type 1} → statement M
 head-fault-spec =

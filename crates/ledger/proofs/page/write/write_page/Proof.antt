@@ -1,11 +1,12 @@
 -- `write_page`: the counts, the entries and the index in turn, then the page in its place.
 use mathlib.Core.Path.{_≡_, sym, ap, _∙_}
 use mathlib.Core.Bool.{Bool, not}
-use Prim.Native.Nat.{_*_}
+use Prim.Native.Nat.{_*_, _/_}
 use native.Mathlib.Omega.{arith}
 use borrow.Author.Needs.{needs}
 use borrow.Author.Tests.{lt-ltb, le-ltb}
 use denote.Ref.{now}
+use lib.ListN.{length}
 use Rattle.ledger.specs.declared.PageWrite.{PageWrite}
 use Rattle.ledger.specs.Tx.{valueTx}
 use Rattle.ledger.specs.Page.{fault, countFault, entryFault, pageOf}
@@ -58,10 +59,11 @@ unwritten-requires-3 c κs = search needs
 returns-3 : tie.Need-returns-3
 returns-3 c =
     let d = c .before in
-    let b = now (d .before .before .before .before .before .before .args .batch) in
+    let a = d .before .before .before .before .before .before .args in
+    let b = now (a .batch) in
     ap (λ (x : PageWrite). put x b) (c .unwritten3 .ensures)
     ∙ write-refused _ _ _ 17 (λ e. omega arith)
-    (sym (wrong-index b _ _ (no-count (d .before .before .before)) (no-entry (d .before)) ∙ ap (λ (b : Bool). fault 17 (not b)) (le-ltb _ _ (d .if3 .taken))))
+    (sym (wrong-index b _ _ (no-count (d .before .before .before)) (no-entry (d .before)) ∙ ap (λ (b : Bool). fault 17 (not b)) (le-ltb (a .index) (length b / 512) (omega arith))))
 
 mul-start : tie.Need-mul-start
 mul-start c = search needs
@@ -76,7 +78,7 @@ part-fill-start : tie.Need-part-fill-start
 part-fill-start c = search needs
 
 part-fill-end : tie.Need-part-fill-end
-part-fill-end c = search needs
+part-fill-end c = omega arith
 
 fill-requires : tie.Need-fill-requires
 fill-requires c κs =
@@ -95,7 +97,7 @@ returns-4 c =
     let b = now (a .batch) in
     rw (c .before .before .fill .ensures, part-back b (pageOf (valueTx (a .t))) (a .index * 512))
     (write-done b (a .index) (a .t)
-    (wrong-index b _ _ (no-count (e .before .before .before)) (no-entry (e .before)) ∙ ap (λ (b : Bool). fault 17 (not b)) (lt-ltb _ _ (e .if3 .left))))
+    (wrong-index b _ _ (no-count (e .before .before .before)) (no-entry (e .before)) ∙ ap (λ (b : Bool). fault 17 (not b)) (lt-ltb (a .index) (length b / 512) (omega arith))))
 
 pub write-page-spec : {M : Type 1} → statement M
 write-page-spec =

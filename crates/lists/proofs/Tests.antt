@@ -1,0 +1,65 @@
+-- Laws of tests: what `&&`, `||`, `not`, a choice and an equality of numbers say. Assumes nothing.
+use mathlib.Core.Bool.{Bool, true, false, not, _&&_, _||_}
+use mathlib.Core.Logic.{_⊎_, inl, inr}
+use mathlib.Core.Path.{_≡_, refl}
+use Prim.Native.Nat.{ℕ}
+use lib.Dec.{T, T-not, not-T, eqb, eqb-refl, eqb→eq}
+use Rattle.lists.specs.Choice.{pick}
+
+pub both : (a b : Bool) → T a → T b → T (a && b)
+both true b p q = q
+
+pub and-left : (a b : Bool) → T (a && b) → T a
+and-left true b p = tt
+
+pub and-right : (a b : Bool) → T (a && b) → T b
+and-right true b p = p
+
+pub or-left : (a b : Bool) → T a → T (a || b)
+or-left true b p = tt
+
+pub or-right : (a b : Bool) → T b → T (a || b)
+or-right true b p = tt
+or-right false b p = p
+
+pub or-cases : (a b : Bool) → T (a || b) → T a ⊎ T b
+or-cases true b p = inl tt
+or-cases false b p = inr p
+
+-- a test passes or its negation does
+pub decide : (b : Bool) → T b ⊎ T (not b)
+decide true = inl tt
+decide false = inr tt
+
+-- a test that passes is true, one whose negation does is false
+pub is-true : (b : Bool) → T b → b ≡ true
+is-true true t = refl
+
+pub is-false : (b : Bool) → T (not b) → b ≡ false
+is-false false t = refl
+
+pub of-true : (b : Bool) → b ≡ true → T b
+of-true b e = rw e tt
+
+-- two tests that pass together are equal
+pub same-test : (a b : Bool) → (T a → T b) → (T b → T a) → a ≡ b
+same-test true true f g = refl
+same-test true false f g = absurd (f tt)
+same-test false true f g = absurd (g tt)
+same-test false false f g = refl
+
+module _ {B : Type 0} where
+  -- what holds of x where b passes, and of y where it fails, holds of the choice between them
+  pub by-test : (P : B → Type 0) (b : Bool) {x y : B} → (T b → P x) → (T (not b) → P y) → P (pick b x y)
+  by-test P true f g = f tt
+  by-test P false f g = g tt
+
+-- unequal numbers, as a test and as a fact
+pub eqb-sym : (i j : ℕ) → T (not (eqb i j)) → T (not (eqb j i))
+eqb-sym i j t = not-T (eqb j i) (λ u. T-not (eqb i j) t (rw (eqb→eq j i u) (eqb-refl i)))
+
+pub differ : (i j : ℕ) → T (not (eqb i j)) → i ≡ j → ⊥
+differ i j t e = T-not (eqb i j) t (rw e (eqb-refl j))
+
+pub unequal : (i j : ℕ) → (i ≡ j → ⊥) → T (not (eqb i j))
+unequal i j f = not-T (eqb i j) (λ t. f (eqb→eq i j t))

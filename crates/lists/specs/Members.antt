@@ -1,0 +1,42 @@
+-- Members of a list: tests over them, those that pass a test, lists without repetition, the first numbers. Assumes nothing.
+use mathlib.Core.Bool.{Bool, true, false, not, _&&_, _||_}
+use mathlib.Core.List.{List, [], _∷_, _++_, List·Memᴰ}
+use mathlib.Core.Logic.{_↔_}
+use Prim.Native.Nat.{ℕ, zero, suc}
+use lib.Dec.{eqb}
+use Rattle.lists.specs.Choice.{pick}
+
+module _ {A : Type 0} where
+  infixl 50 _∈_
+  -- x is one of xs
+  abbrev pub _∈_ : A → List A → Type 0
+  x ∈ xs = List·Memᴰ x xs
+
+  -- some one of xs passes p
+  abbrev pub any : (A → Bool) → List A → Bool
+  any p [] = false
+  any p (x ∷ xs) = p x || any p xs
+
+  -- each of xs passes p
+  abbrev pub all : (A → Bool) → List A → Bool
+  all p [] = true
+  all p (x ∷ xs) = p x && all p xs
+
+  -- those of xs that pass p, as they stand
+  abbrev pub those : (A → Bool) → List A → List A
+  those p [] = []
+  those p (x ∷ xs) = pick (p x) (x ∷ those p xs) (those p xs)
+
+  -- xs and ys have the same members, however listed
+  abbrev pub Alike : List A → List A → Type 0
+  Alike xs ys = (x : A) → (x ∈ xs) ↔ (x ∈ ys)
+
+-- no number stands in the list twice
+unfoldable pub distinct : List ℕ → Bool
+distinct [] = true
+distinct (i ∷ is) = all (λ j. not (eqb i j)) is && distinct is
+
+-- the numbers below m, rising
+unfoldable pub upto : ℕ → List ℕ
+upto zero = []
+upto (suc m) = upto m ++ (m ∷ [])

@@ -1,0 +1,4 @@
+pub mod Admitted
+pub mod Arranged
+pub mod Chains
+pub mod Relabelled

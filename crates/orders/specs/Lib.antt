@@ -1,0 +1,3 @@
+pub mod Admission
+pub mod Arrange
+pub mod Chain

@@ -1,9 +1,10 @@
 -- Laws of members: of tests over them, of those that pass, of rearrangements, of lists without repetition, of the first numbers. Assumes nothing.
-use mathlib.Core.Bool.{Bool, not, _&&_, _||_}
-use mathlib.Core.List.{List, [], _∷_, _++_, map, List·Memᴰ·head, List·Memᴰ·tail, List·Memᴰ·cases-cons, List·Memᴰ·not-nil, List·Memᴰ·append-cases, List·Memᴰ·eq-of-singleton, Memᴰ·append-left, Memᴰ·append-right, List·Permᴰ, List·Permᴰ·nil, List·Permᴰ·cons, List·Permᴰ·swap, List·Permᴰ·trans, Permᴰ·refl, Permᴰ·symm}
+use mathlib.Core.Bool.{Bool, true, false, not, _&&_, _||_}
+use mathlib.Core.List.{List, [], _∷_, _++_, append-nil, map, List·Memᴰ·head, List·Memᴰ·tail, List·Memᴰ·cases-cons, List·Memᴰ·not-nil, List·Memᴰ·append-cases, List·Memᴰ·eq-of-singleton, Memᴰ·append-left, Memᴰ·append-right, List·Permᴰ, List·Permᴰ·nil, List·Permᴰ·cons, List·Permᴰ·swap, List·Permᴰ·trans, Permᴰ·refl, Permᴰ·symm}
 use mathlib.Core.Logic.{_⊎_, inl, inr, ⊎-elim, _↔_}
 use mathlib.Core.Path.{_≡_, refl, sym, ap, ap₂, subst, _∙_}
-use Prim.Native.Nat.{ℕ, zero, suc, _≤_, _<_}
+use Prim.Native.Nat.{ℕ, zero, suc, _+_, _≤_, _<_}
+use native.Mathlib.Numerals.{add-one}
 use native.Mathlib.Omega.{arith}
 use lib.ListN.{length, length-append}
 use lib.Dec.{T, T-not, eqb, eqb→eq}
@@ -240,3 +241,12 @@ pub upto-length : (m : ℕ) → length (upto m) ≡ m
 unfolding upto
 upto-length zero = refl
 upto-length (suc m) = simp length-append (let e = upto-length m in omega arith)
+
+-- those of the first numbers, with one number more
+pub those-upto-in : (p : ℕ → Bool) (m : ℕ) → p m ≡ true → those p (upto (m + 1)) ≡ those p (upto m) ++ (m ∷ [])
+unfolding upto
+those-upto-in p m e = rw (add-one, those-append p (upto m) (m ∷ []), e)
+
+pub those-upto-out : (p : ℕ → Bool) (m : ℕ) → p m ≡ false → those p (upto (m + 1)) ≡ those p (upto m)
+unfolding upto
+those-upto-out p m e = rw (add-one, those-append p (upto m) (m ∷ []), e, append-nil)

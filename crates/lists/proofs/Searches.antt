@@ -26,6 +26,28 @@ module _ (bad : ℕ → Bool) where
   unfolding firstIn
   done to = rw sub-self
 
+  within-seek : (i k : ℕ) → seek bad i k ≤ i + k
+  unfolding seek
+  within-seek i zero = omega arith
+  within-seek i (suc k) = go (bad i) (within-seek (suc i) k)
+    where
+      go : (b : Bool) → seek bad (suc i) k ≤ suc i + k → pick b i (seek bad (suc i) k) ≤ i + suc k
+      go true ih = omega arith
+      go false ih = omega arith
+
+  -- it stays within its range
+  pub within : (from to : ℕ) → from ≤ to → firstIn bad from to ≤ to
+  unfolding firstIn
+  within from to h = omega (arith, within-seek from (to - from))
+
+  -- a search that finds none misses at its first index, and finds none after it
+  pub passed : (i to : ℕ) → i < to → to ≤ firstIn bad i to → (bad i ≡ false) × (to ≤ firstIn bad (i + 1) to)
+  passed i to h n = go (bad i) refl
+    where
+      go : (b : Bool) → bad i ≡ b → (bad i ≡ false) × (to ≤ firstIn bad (i + 1) to)
+      go true e = absurd (omega (arith, hit i to h e))
+      go false e = (e, omega (arith, miss i to h e))
+
 -- what a search found, as a test
 module _ (bad : ℕ → Bool) (from to x : ℕ) (found : x ≡ firstIn bad from to) where
   pub some : x < to → someIn bad from to ≡ true

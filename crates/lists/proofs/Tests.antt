@@ -1,7 +1,7 @@
 -- Laws of tests: what `&&`, `||`, `not`, a choice and an equality of numbers say. Assumes nothing.
 use mathlib.Core.Bool.{Bool, true, false, not, _&&_, _||_}
 use mathlib.Core.Logic.{_⊎_, inl, inr}
-use mathlib.Core.Path.{_≡_, refl}
+use mathlib.Core.Path.{_≡_, refl, sym, subst}
 use Prim.Native.Nat.{ℕ}
 use lib.Dec.{T, T-not, not-T, eqb, eqb-refl, eqb→eq}
 use Rattle.lists.specs.Choice.{pick}
@@ -41,12 +41,53 @@ is-false false t = refl
 pub of-true : (b : Bool) → b ≡ true → T b
 of-true b e = rw e tt
 
+pub clash : true ≡ false → ⊥
+clash e = subst T e tt
+
 -- two tests that pass together are equal
 pub same-test : (a b : Bool) → (T a → T b) → (T b → T a) → a ≡ b
 same-test true true f g = refl
 same-test true false f g = absurd (f tt)
 same-test false true f g = absurd (g tt)
 same-test false false f g = refl
+
+-- ---- the same said by equations, as contracts say it
+
+pub or-either : (p q : Bool) → (p || q) ≡ true → (p ≡ true) ⊎ (q ≡ true)
+or-either true q e = inl refl
+or-either false q e = inr e
+
+pub or-first : (p q : Bool) → p ≡ true → (p || q) ≡ true
+or-first p q e = rw e refl
+
+pub or-second : (p q : Bool) → q ≡ true → (p || q) ≡ true
+or-second true q e = refl
+or-second false q e = e
+
+pub and-parts : (p q : Bool) → (p && q) ≡ true → (p ≡ true) × (q ≡ true)
+and-parts true q e = (refl, e)
+and-parts false q e = absurd (clash (sym e))
+
+pub and-whole : (p q : Bool) → p ≡ true → q ≡ true → (p && q) ≡ true
+and-whole true q e f = f
+and-whole false q e f = e
+
+pub minus-none : (p q : Bool) → (p && not q) ≡ false → p ≡ true → q ≡ true
+minus-none true true e f = refl
+minus-none true false e f = absurd (clash e)
+minus-none false q e f = absurd (clash (sym f))
+
+pub minus-some : (p q : Bool) → (p && not q) ≡ true → (p ≡ true) × (q ≡ false)
+minus-some true true e = (refl, sym e)
+minus-some true false e = (refl, refl)
+minus-some false q e = absurd (clash (sym e))
+
+-- a test that is not true is false
+pub no-true : (b : Bool) → (b ≡ true → ⊥) → b ≡ false
+no-true true f = absurd (f refl)
+no-true false f = refl
+
+-- ---- choices, and numbers
 
 module _ {B : Type 0} where
   -- what holds of x where b passes, and of y where it fails, holds of the choice between them

@@ -1,4 +1,6 @@
 pub mod Admitted
 pub mod Arranged
 pub mod Chains
+pub mod Placed
 pub mod Relabelled
+pub mod Worklist

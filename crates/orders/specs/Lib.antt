@@ -1,3 +1,4 @@
 pub mod Admission
 pub mod Arrange
 pub mod Chain
+pub mod Walk

@@ -1,0 +1,3 @@
+mod Digits
+pub mod Laws
+pub mod Listed

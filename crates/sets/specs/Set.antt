@@ -1,0 +1,31 @@
+-- A number as the set of the places of its binary digits that are 1. Assumes nothing.
+use mathlib.Core.Path.{_≡_}
+use mathlib.Core.Bool.{Bool, true, false}
+use mathlib.Core.List.{List}
+use Prim.Native.Nat.{ℕ, _/_, _%_, _^_, _<_, _+_, zero, suc}
+use lib.Dec.{eqb}
+use Rattle.lists.specs.Members.{those, upto}
+
+-- i is in m: digit i of m is 1
+unfoldable pub member : ℕ → ℕ → Bool
+member m i = eqb (m / 2 ^ i % 2) 1
+
+-- i is the lowest number in m
+pub record Lowest (m i : ℕ) : Type 0 where
+  pub small : i < 64
+  pub isin : member m i ≡ true
+  pub least : (j : ℕ) → j < i → member m j ≡ false
+
+-- 1 where the test holds, else 0
+abbrev pub one : Bool → ℕ
+one true = 1
+one false = 0
+
+-- how many of the numbers below n are in m
+unfoldable pub size : ℕ → ℕ → ℕ
+size m zero = 0
+size m (suc n) = size m n + one (member m n)
+
+-- the numbers below n that are in m, rising
+abbrev pub members : ℕ → ℕ → List ℕ
+members m n = those (member m) (upto n)

@@ -1,0 +1,19 @@
+// Tonnage texts: kilograms written as tonnes, read and written.
+use refusals::Refusal;
+
+// What reading a text finds.
+pub enum Reading {
+    Kilograms { value: i64 },
+    Unread { refusal: Refusal },
+}
+
+// What writing a text did: the length of the text, or why nothing was written.
+pub enum Writing {
+    Length { length: usize },
+    Unwritten { refusal: Refusal },
+}
+
+mod digits;
+mod figure;
+mod form;
+pub mod text;

@@ -5,3 +5,8 @@ pub mod OnPage
 pub mod Stored
 pub mod Faults
 pub mod Pages
+pub mod Rising
+pub mod Entries
+pub mod Gated
+pub mod Tickets
+pub mod Commits

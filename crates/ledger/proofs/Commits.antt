@@ -1,31 +1,35 @@
 -- Laws of the version check and of commit. Assumes nothing.
-use mathlib.Core.Path.{_≡_, refl, sym, ap, ap₂, _∙_}
+use mathlib.Core.Path.{_≡_, refl, sym, ap, _∙_}
 use mathlib.Core.Bool.{Bool, true, false, not}
 use mathlib.Core.List.{List, [], _∷_, _++_}
 use Prim.Native.Nat.{ℕ, suc, _+_, _*_, _-_, _≤_, _<_}
 use native.Mathlib.Nat.{add-zero, add-suc, suc-add, zero-add, add-sub-cancel-left}
 use native.Mathlib.Numerals.{add-one}
 use native.Mathlib.Omega.{arith}
-use lib.ListN.{length, getD, set, take, drop, length-append, length-set}
+use lib.ListN.{length, set, take, drop, length-append, length-drop, length-set}
 use lib.Seq.{take-suc, take-all, drop-cons, set-at, append-snoc}
-use lib.Dec.{eqb}
+use lib.Dec.{eqb, ltb}
+use borrow.Author.Tests.{ltb-false, eq-eqb, ne-eqb}
 use lib.IntN.{ℤ}
 use Rattle.lists.specs.Choice.{pick}
-use Rattle.lists.specs.Search.{firstIn, someIn}
-use Rattle.lists.specs.Members.{those}
+use Rattle.lists.specs.Search.{firstIn}
 use Rattle.lists.proofs.Searches.{within, all-search}
 use Rattle.lists.proofs.Tests.{eqb-not}
-use Rattle.lists.proofs.Membership.{those-append, those-shorter}
-use Rattle.refusals.specs.Outcome.{gives}
+use Rattle.lists.proofs.Membership.{those-append}
+use Rattle.refusals.specs.Outcome.{Outcome, gives, refuses}
+use Rattle.refusals.specs.Fault.{clear}
+use Rattle.ledger.specs.declared.Version.{Version}
 use Rattle.ledger.specs.declared.Write.{Write}
 use Rattle.ledger.specs.declared.Committed.the-variants.{Passed}
 use Rattle.ledger.specs.Bytes.{tab}
+use Rattle.ledger.specs.Version.{at}
 use Rattle.ledger.specs.Tx.{Tx, noRead, readOf, writeOf, noWrite}
-use Rattle.ledger.specs.Page.{pageAt, pageTx}
-use Rattle.ledger.specs.State.{State, Entry, Level, store}
-use Rattle.ledger.specs.Gate.{pages, txAt, txs, Batch}
-use Rattle.ledger.specs.Commit.{names, passes, left, write, afterPage, verdict, commit, verdicts, passed, commits, committed}
+use Rattle.ledger.specs.Page.{pageAt}
+use Rattle.ledger.specs.State.{State, Entry, Level, gone, keys, store}
+use Rattle.ledger.specs.Gate.{pages, txAt, txs, gateFault, gate, Ready, Batch}
+use Rattle.ledger.specs.Commit.{names, passes, left, write, afterPage, verdict, commit, verdicts, passed, commits, commitBatch, committed}
 use Rattle.ledger.proofs.OnPage.{length-tab}
+use Rattle.ledger.proofs.Gated.{judged-gives, judged-refuses, Through, gate-open}
 
 -- ---- one more at the end
 
@@ -56,10 +60,6 @@ passed-last vs v = rw (those-append (eqb 0) vs (v ∷ []), length-append) (ap (�
     go : (b : Bool) → length (pick b (v ∷ []) []) ≡ pick b 1 0
     go true = refl
     go false = refl
-
-pub passed-few : (vs : List ℕ) → passed vs ≤ length vs
-unfolding passed
-passed-few vs = those-shorter (eqb 0) vs
 
 -- ---- the lengths of the lists
 
@@ -111,29 +111,69 @@ commit-level n i s xs l = kept-level s (commit n i s xs) (commit-kept n i s xs) 
 
 -- ---- the version check, as a search
 
-pub passes-search : (s : State) (x : Tx) (n at : ℕ) → n ≡ length (x .reads)
-    → at ≡ firstIn (λ i. not (names s (readOf (x .reads) i))) 0 (length (x .reads))
-    → eqb at n ≡ passes s x
+pub passes-search : (s : State) (x : Tx) (n stop : ℕ) → n ≡ length (x .reads)
+    → stop ≡ firstIn (λ i. not (names s (readOf (x .reads) i))) 0 (length (x .reads))
+    → eqb stop n ≡ passes s x
 unfolding passes
-passes-search s x n at count found =
+passes-search s x n stop count found =
     rw (count, found)
     (eqb-not _ _ (within (λ i. not (names s (readOf (x .reads) i))) 0 (length (x .reads)) (omega arith))
     ∙ sym (all-search (names s) noRead (x .reads)))
 
+-- ---- what a write leaves
+
+module _ (s t : State) (n i : ℕ) (w : Write) where
+  pub stored-put : (v : Version) (z : ℤ) → t ≡ store s (w .key) (record { version = v; value = z }) → w .kind ≡ 0 → v ≡ at n i → z ≡ w .value
+      → t ≡ store s (w .key) (left n i w)
+  stored-put v z h k e f = h ∙ rw (eq-eqb (w .kind) 0 k, e, f)
+
+  pub stored-gone : t ≡ store s (w .key) gone → (w .kind ≡ 0 → ⊥) → t ≡ store s (w .key) (left n i w)
+  stored-gone h f = h ∙ rw (ne-eqb (w .kind) 0 f)
+
 -- ---- the writes of a page in turn
 
-pub write-next : (n i : ℕ) (s : State) (ws : List Write) (j : ℕ) → j < length ws
-    → write n i s (take (j + 1) ws) ≡ store (write n i s (take j ws)) (writeOf ws j .key) (left n i (writeOf ws j))
-write-next n i s ws j h = rw (add-one, take-suc ws j noWrite h) (write-last n i s (take j ws) (writeOf ws j))
+-- j of the writes are made
+pub record Writing (n i : ℕ) (s : State) (ws : List Write) (j : ℕ) (t : State) : Type 0 where
+  pub so-far : t ≡ write n i s (take j ws)
 
-pub write-all : (n i : ℕ) (s : State) (ws : List Write) (j : ℕ) → length ws ≤ j → write n i s (take j ws) ≡ write n i s ws
-write-all n i s ws j h = ap (write n i s) (take-all j ws h)
+pub writing-begins : (n i : ℕ) (s : State) (ws : List Write) → Writing n i s ws 0 s
+unfolding write
+writing-begins n i s ws = record { so-far = refl }
+
+module _ {n i : ℕ} {s : State} {ws : List Write} {j : ℕ} {t : State} (h : Writing n i s ws j t) where
+  pub writing-kept : Kept s t
+  writing-kept = rw (h .so-far) (write-kept n i s (take j ws))
+
+  pub writing-level : Level (s .blocks) (s .places) (s .values) → Level (t .blocks) (t .places) (t .values)
+  writing-level l = kept-level s t writing-kept l
+
+  pub writing-turns : (w : Write) (u : State) → j < length ws → w ≡ writeOf ws j → u ≡ store t (w .key) (left n i w) → Writing n i s ws (j + 1) u
+  writing-turns w u l e f = record {
+    so-far = f ∙ rw (e, h .so-far, add-one, take-suc ws j noWrite l) (sym (write-last n i s (take j ws) (writeOf ws j)));
+  }
+
+  pub writing-ends : length ws ≤ j → t ≡ write n i s ws
+  writing-ends l = h .so-far ∙ ap (write n i s) (take-all j ws l)
+
+-- ---- one page
+
+module _ (n i : ℕ) (s : State) (x : Tx) where
+  pub page-fails : passes s x ≡ false → s ≡ afterPage n i s x
+  unfolding afterPage
+  page-fails e = rw e
+
+  pub page-passes : (t : State) → passes s x ≡ true → t ≡ write n i s (x .writes) → t ≡ afterPage n i s x
+  unfolding afterPage
+  page-passes t e f = f ∙ rw e
 
 -- ---- the pages of a batch in turn
 
 -- the part of a batch that is lent as page i
 pub lent : (batch : List ℕ) (i : ℕ) → take (i * 512 + 512 - i * 512) (drop (i * 512) batch) ≡ pageAt batch i
 lent batch i = rw (add-sub-cancel-left (i * 512) 512)
+
+pub lent-ready : (batch : List ℕ) (i k l : ℕ) → l ≡ k → Ready k (pageAt batch i) → Ready l (take (i * 512 + 512 - i * 512) (drop (i * 512) batch))
+lent-ready batch i k l e r = rw (lent batch i, e) r
 
 module _ (batch : List ℕ) (s : State) (n : ℕ) (vs : List ℕ) where
   abbrev pub first : ℕ → List Tx
@@ -163,24 +203,28 @@ module _ (batch : List ℕ) (s : State) (n : ℕ) (vs : List ℕ) where
   next-verdicts i = rw (next i, verdicts-last)
 
   module _ (i count : ℕ) (t : State) (ws : List ℕ) (c : Committing i count t ws) where
-    pub committing-few : count ≤ i
-    committing-few = omega (arith, passed-few (verdicts n 0 s (first i)), many i, c .count-is)
+    pub committing-kept : Kept s t
+    committing-kept = rw (c .state-is) (commit-kept n 0 s (first i))
+
+    pub committing-long : i ≤ length vs → length ws ≡ length vs
+    committing-long h = rw (c .verdicts-are, length-append, many i, length-drop) (omega arith)
 
     stored : (v : ℕ) → i < length vs → set ws i v ≡ (verdicts n 0 s (first i) ++ (v ∷ [])) ++ drop (i + 1) vs
     stored v h =
         rw (c .verdicts-are, drop-cons vs i 0 h, set-at (verdicts n 0 s (first i)) _ _ v i (many i), add-one)
         (sym (append-snoc (verdicts n 0 s (first i)) v (drop (suc i) vs)))
 
-    pub committing-turns : (b : Bool) (more : ℕ) (u : State) → i < length vs
+    pub committing-turns : (b : Bool) (more : ℕ) (u : State) (new : List ℕ) → i < length vs
         → b ≡ passes t (txAt batch i)
         → u ≡ afterPage n i t (txAt batch i)
         → more ≡ count + pick b 1 0
-        → Committing (i + 1) more u (set ws i (pick b 0 3))
-    committing-turns b more u h e f g =
+        → new ≡ set ws i (pick b 0 3)
+        → Committing (i + 1) more u new
+    committing-turns b more u new h e f g q =
         let v : _≡_ {A = ℕ} (pick b 0 3) (verdict (commit n 0 s (first i)) (txAt batch i)) = ap (λ x. pick x 0 3) e ∙ ap (λ r. verdict r (txAt batch i)) (c .state-is) in
         record {
           state-is = f ∙ ap (λ r. afterPage n i r (txAt batch i)) (c .state-is) ∙ sym (next-commit i);
-          verdicts-are = stored (pick b 0 3) h ∙ rw (next-verdicts i, ← v);
+          verdicts-are = q ∙ stored (pick b 0 3) h ∙ rw (next-verdicts i, ← v);
           count-is = g ∙ rw (next-verdicts i, ← v, passed-last, ← c .count-is) (ap (λ x. count + x) (go b));
         }
       where
@@ -191,3 +235,36 @@ module _ (batch : List ℕ) (s : State) (n : ℕ) (vs : List ℕ) where
     pub committing-ends : i ≡ pages batch → committed (Passed count) t ws ≡ commits batch s n vs
     unfolding commits txs
     committing-ends e = rw (c .count-is, c .state-is, c .verdicts-are, e)
+
+-- ---- a batch
+
+module _ (batch : List ℕ) (s : State) (n : ℕ) (vs : List ℕ) where
+  -- the gate, asked whether the verdicts are too short
+  abbrev pub asked : Outcome ℕ
+  asked = gate (ltb (length vs) (pages batch)) batch s n
+
+  pub commit-refused : (number place : ℕ) → refuses number place ≡ asked
+      → record { answer = refuses number place; state = s; verdicts = vs } ≡ commitBatch batch s n vs
+  unfolding gate commitBatch
+  commit-refused number place e = rw (judged-refuses (gateFault (ltb (length vs) (pages batch)) batch s n) number place (pages batch) e, commitBatch)
+
+  module _ (m : ℕ) (told : gives m ≡ asked) where
+    clear-is : (gateFault (ltb (length vs) (pages batch)) batch s n ≡ clear) × (m ≡ pages batch)
+    unfolding gate
+    clear-is = judged-gives (gateFault (ltb (length vs) (pages batch)) batch s n) m (pages batch) told
+
+    through : Through (ltb (length vs) (pages batch)) batch s n
+    through = gate-open (ltb (length vs) (pages batch)) batch s n (clear-is .0)
+
+    pub commit-batch : Batch (keys s) batch m
+    commit-batch = rw (clear-is .1) (through .ready)
+
+    pub commit-long : m ≤ length vs
+    commit-long = rw (clear-is .1) (ltb-false (length vs) (pages batch) (through .long))
+
+    pub commit-even : Level (s .blocks) (s .places) (s .values)
+    commit-even = through .level
+
+    pub commit-taken : commits batch s n vs ≡ commitBatch batch s n vs
+    unfolding commitBatch
+    commit-taken = rw (clear-is .0, commitBatch)

@@ -2,7 +2,7 @@
 use mathlib.Core.Path.{_≡_, refl, sym, ap, _∙_}
 use mathlib.Core.Bool.{Bool, true, false, not, _||_, _&&_}
 use mathlib.Core.List.{List}
-use Prim.Native.Nat.{ℕ, suc, _*_, _/_, _%_, _≤_, _<_}
+use Prim.Native.Nat.{ℕ, suc, _*_, _%_, _≤_, _<_}
 use native.Mathlib.Omega.{arith}
 use lib.ListN.{length}
 use lib.Dec.{eqb, ltb, leb, eqb·suc-zero}
@@ -10,7 +10,7 @@ use borrow.Author.Tests.{ltb-true, ltb-false, leb-true, eqb-true, eqb-false, not
 use Rattle.lists.specs.Choice.{pick}
 use Rattle.lists.specs.Search.{firstIn, someIn}
 use Rattle.lists.proofs.Searches.{missed, holds, first-same}
-use Rattle.refusals.specs.Outcome.{Outcome, gives, refuses}
+use Rattle.refusals.specs.Outcome.{gives, refuses}
 use Rattle.refusals.specs.Fault.{Fault, clear, fault, _orElse_, at, judged}
 use Rattle.ledger.specs.Page.{pageFault, pageAt}
 use Rattle.ledger.specs.Services.{Counts, checkPage}

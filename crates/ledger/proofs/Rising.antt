@@ -3,7 +3,7 @@ use mathlib.Core.Path.{_≡_, sym, ap, ap₂, _∙_}
 use mathlib.Core.Bool.{Bool, true, false, not, _||_}
 use mathlib.Core.Logic.{⊎-elim}
 use mathlib.Core.List.{List}
-use Prim.Native.Nat.{ℕ, zero, suc, _+_, _-_, _≤_, _<_}
+use Prim.Native.Nat.{ℕ, zero, suc, _-_, _≤_, _<_}
 use native.Mathlib.Nat.{eq-or-lt-of-le, le-of-suc-le-suc}
 use native.Mathlib.Omega.{arith}
 use lib.ListN.{length}
@@ -13,7 +13,7 @@ use Rattle.lists.specs.Search.{someIn}
 use Rattle.lists.proofs.Searches.{missed, none-at, some-at, any-search}
 use Rattle.ledger.specs.Tx.{Tx, noRead, noWrite, readOf, writeOf, floorOf}
 use Rattle.ledger.specs.Page.{fault, entryFault, pageFault, pageTx}
-use Rattle.ledger.specs.Gate.{beyond, Ready}
+use Rattle.ledger.specs.Gate.{beyond}
 use Rattle.ledger.proofs.Turns.{outOfTurn}
 use Rattle.ledger.proofs.Faults.{then-none, fault-none, or-none, six, seven, eight, nine, sound}
 

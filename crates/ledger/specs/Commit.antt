@@ -1,14 +1,13 @@
 -- Document 01, 'Version check and commit'. Assumes nothing.
-use Prim.Native.Nat.{ℕ, zero, suc}
+use Prim.Native.Nat.{ℕ, suc}
 use mathlib.Core.Bool.{Bool}
 use mathlib.Core.List.{List, [], _∷_, _++_}
 use lib.ListN.{length, drop}
 use lib.Dec.{eqb, ltb}
-use lib.IntN.{ℤ}
 use Rattle.lists.specs.Choice.{pick}
 use Rattle.lists.specs.Members.{all, those}
 use Rattle.refusals.specs.Outcome.{Outcome, gives, refuses}
-use Rattle.refusals.specs.Fault.{Fault, clear, fault}
+use Rattle.refusals.specs.Fault.{clear, fault}
 use Rattle.ledger.specs.declared.Read.{Read}
 use Rattle.ledger.specs.declared.Write.{Write}
 use Rattle.ledger.specs.declared.Committed.{Committed}

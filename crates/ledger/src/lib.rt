@@ -61,6 +61,7 @@ pub enum Committed {
 
 pub mod batch;
 mod bytes;
+pub mod commit;
 mod entry;
 pub mod page;
 pub mod state;

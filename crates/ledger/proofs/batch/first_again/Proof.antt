@@ -9,7 +9,6 @@ use Rattle.ledger.proofs.Pages.{good-counted}
 use Rattle.ledger.proofs.Commits.{lent}
 use Rattle.ledger.proofs.Tickets.{Ticketed, ticketed-begins, ticketed-found, ticketed-passes}
 use borrow.Author.Needs.{needs}
-use native.Mathlib.Omega.{arith}
 use Rattle.ledger.proofs.batch.first_again.Statement.{statement}
 use Rattle.ledger.proofs.batch.first_again.Tie as tie
 

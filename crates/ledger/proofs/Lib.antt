@@ -14,3 +14,8 @@ pub mod Noticed
 pub mod Back
 pub mod Cases
 pub mod Pages
+pub mod Rising
+pub mod Entries
+pub mod Gated
+pub mod Tickets
+pub mod Commits

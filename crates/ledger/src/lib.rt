@@ -47,7 +47,22 @@ pub enum PageWrite {
     Unwritten { refusal: Refusal },
 }
 
+// What the gate says of a batch: how many pages it has, or why it is refused.
+pub enum Gate {
+    Open { pages: usize },
+    Shut { refusal: Refusal },
+}
+
+// What a commit did: how many pages passed, or why nothing was done.
+pub enum Committed {
+    Passed { pages: usize },
+    Uncommitted { refusal: Refusal },
+}
+
+pub mod batch;
 mod bytes;
+pub mod commit;
 mod entry;
 pub mod page;
+pub mod state;
 mod versions;

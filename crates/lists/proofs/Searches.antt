@@ -1,13 +1,16 @@
 -- Laws of searches by index. Assumes nothing.
-use mathlib.Core.Path.{_≡_, refl, ap, ap₂}
-use mathlib.Core.Bool.{Bool, true, false}
+use mathlib.Core.Path.{_≡_, refl, sym, ap, ap₂, _∙_}
+use mathlib.Core.Bool.{Bool, true, false, not, _&&_, _||_, false≢true}
+use mathlib.Core.List.{List, [], _∷_}
 use Prim.Native.Nat.{ℕ, zero, suc, _+_, _-_, _≤_, _<_}
-use native.Mathlib.Nat.{sub-self, suc-add, add-suc, add-zero}
+use native.Mathlib.Nat.{sub-self, sub-zero, suc-add, add-suc, add-zero, zero-add}
 use native.Mathlib.Numerals.{add-one}
 use native.Mathlib.Omega.{arith}
-use lib.Dec.{ltb}
-use borrow.Author.Tests.{lt-ltb, le-ltb}
+use lib.ListN.{length, getD}
+use lib.Dec.{ltb, leb·suc-suc}
+use borrow.Author.Tests.{lt-ltb, le-ltb, ltb-false}
 use Rattle.lists.specs.Choice.{pick}
+use Rattle.lists.specs.Members.{any, all}
 use Rattle.lists.specs.Search.{seek, firstIn, someIn}
 
 -- what a searching loop needs: at a hit it stops, at a miss it goes on, at the end it gives the end
@@ -74,3 +77,91 @@ seek-none bad i (suc k) h =
     let here : bad i ≡ false = rw add-zero at (h 0 (omega arith)) in
     let rest : seek bad (suc i) k ≡ suc i + k = seek-none bad (suc i) k (λ j l. rw (suc-add, ← add-suc) (h (suc j) (omega arith))) in
     rw (here, rest) (omega arith)
+
+pub first-same : (f g : ℕ → Bool) (n : ℕ) → ((j : ℕ) → j < n → f j ≡ g j) → firstIn f 0 n ≡ firstIn g 0 n
+unfolding firstIn
+first-same f g n h = seek-same f g 0 (n - 0) (λ j l. h j (omega arith))
+
+-- a search that finds none has missed at each index
+missed-seek : (bad : ℕ → Bool) (i k : ℕ) → i + k ≤ seek bad i k → (j : ℕ) → j < k → bad (i + j) ≡ false
+unfolding seek
+missed-seek bad i zero h j l = absurd (omega arith)
+missed-seek bad i (suc k) h j l = go (bad i) refl h (λ q m o. missed-seek bad (suc i) k q m o) j l
+  where
+    go : (b : Bool)
+        → bad i ≡ b
+        → i + suc k ≤ pick b i (seek bad (suc i) k)
+        → (suc i + k ≤ seek bad (suc i) k → (m : ℕ) → m < k → bad (suc i + m) ≡ false)
+        → (m : ℕ)
+        → m < suc k
+        → bad (i + m) ≡ false
+    go true e q ih m o = absurd (omega arith)
+    go false e q ih zero o = rw add-zero e
+    go false e q ih (suc m) o = rw (add-suc, ← suc-add) (ih (omega arith) m (omega arith))
+
+pub missed : (bad : ℕ → Bool) (n : ℕ) → someIn bad 0 n ≡ false → (i : ℕ) → i < n → bad i ≡ false
+unfolding firstIn
+missed bad n e i h = rw zero-add at (missed-seek bad 0 (n - 0) (omega (arith, ltb-false (seek bad 0 (n - 0)) n e)) i (omega arith))
+
+-- and one that misses at each index finds none
+pub none-at : (bad : ℕ → Bool) (n : ℕ) → ((i : ℕ) → i < n → bad i ≡ false) → someIn bad 0 n ≡ false
+unfolding firstIn
+none-at bad n h = le-ltb (seek bad 0 (n - 0)) n (omega (arith, seek-none bad 0 (n - 0) (λ j l. rw zero-add (h j (omega arith)))))
+
+pub some-at : (bad : ℕ → Bool) (n i : ℕ) → i < n → bad i ≡ true → someIn bad 0 n ≡ true
+some-at bad n i h e = go (someIn bad 0 n) refl
+  where
+    go : (b : Bool) → someIn bad 0 n ≡ b → b ≡ true
+    go true s = refl
+    go false s = absurd (false≢true (sym (missed bad n s i h) ∙ e))
+
+-- where a search stops within its range, the test holds
+holds-seek : (bad : ℕ → Bool) (i k : ℕ) → seek bad i k < i + k → bad (seek bad i k) ≡ true
+unfolding seek
+holds-seek bad i zero h = absurd (omega arith)
+holds-seek bad i (suc k) h = go (bad i) refl h (λ q. holds-seek bad (suc i) k q)
+  where
+    go : (b : Bool)
+        → bad i ≡ b
+        → pick b i (seek bad (suc i) k) < i + suc k
+        → (seek bad (suc i) k < suc i + k → bad (seek bad (suc i) k) ≡ true)
+        → bad (pick b i (seek bad (suc i) k)) ≡ true
+    go true e q ih = e
+    go false e q ih = ih (omega arith)
+
+pub holds : (bad : ℕ → Bool) (n x : ℕ) → x ≡ firstIn bad 0 n → x < n → bad x ≡ true
+unfolding firstIn
+holds bad n x e h = rw e (holds-seek bad 0 (n - 0) (omega arith))
+
+-- ---- tests over a list, as searches
+
+seek-next : (bad : ℕ → Bool) (i k : ℕ) → seek bad (suc i) k ≡ suc (seek (λ j. bad (suc j)) i k)
+unfolding seek
+seek-next bad i zero = refl
+seek-next bad i (suc k) = go (bad (suc i)) (seek-next bad (suc i) k)
+  where
+    go : (b : Bool) → seek bad (suc (suc i)) k ≡ suc (seek (λ j. bad (suc j)) (suc i) k)
+        → pick b (suc i) (seek bad (suc (suc i)) k) ≡ suc (pick b i (seek (λ j. bad (suc j)) (suc i) k))
+    go true ih = refl
+    go false ih = ih
+
+some-first : (bad : ℕ → Bool) (n : ℕ) → someIn bad 0 (suc n) ≡ (bad 0 || someIn (λ i. bad (suc i)) 0 n)
+unfolding firstIn
+some-first bad n = rw (sub-zero (suc n), sub-zero n) (go (bad 0))
+  where
+    go : (b : Bool) → ltb (pick b 0 (seek bad 1 n)) (suc n) ≡ (b || ltb (seek (λ i. bad (suc i)) 0 n) n)
+    go true = lt-ltb 0 (suc n) (omega arith)
+    go false = rw (seek-next bad 0 n, leb·suc-suc)
+
+module _ {A : Type 0} (p : A → Bool) (d : A) where
+  pub any-search : (xs : List A) → any p xs ≡ someIn (λ i. p (getD xs i d)) 0 (length xs)
+  any-search [] = rw (done (λ i. p (getD [] i d)) 0)
+  any-search (x ∷ xs) = rw (some-first (λ i. p (getD (x ∷ xs) i d)) (length xs)) (ap (λ b. p x || b) (any-search xs))
+
+  pub all-search : (xs : List A) → all p xs ≡ not (someIn (λ i. not (p (getD xs i d))) 0 (length xs))
+  all-search [] = rw (done (λ i. not (p (getD [] i d))) 0)
+  all-search (x ∷ xs) = rw (some-first (λ i. not (p (getD (x ∷ xs) i d))) (length xs), all-search xs) (go (p x) _)
+    where
+      go : (b c : Bool) → (b && not c) ≡ not (not b || c)
+      go true c = refl
+      go false c = refl

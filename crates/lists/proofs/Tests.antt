@@ -2,8 +2,10 @@
 use mathlib.Core.Bool.{Bool, true, false, not, _&&_, _||_}
 use mathlib.Core.Logic.{_⊎_, inl, inr}
 use mathlib.Core.Path.{_≡_, refl, sym, subst}
-use Prim.Native.Nat.{ℕ}
-use lib.Dec.{T, T-not, not-T, eqb, eqb-refl, eqb→eq}
+use Prim.Native.Nat.{ℕ, _≤_}
+use native.Mathlib.Omega.{arith}
+use lib.Dec.{T, T-not, not-T, eqb, leb, ltb, eqb-refl, eqb→eq}
+use borrow.Author.Tests.{ltb-true, ltb-false, lt-leb, le-leb, eq-eqb, ne-eqb}
 use Rattle.lists.specs.Choice.{pick}
 
 pub both : (a b : Bool) → T a → T b → T (a && b)
@@ -87,6 +89,10 @@ pub no-true : (b : Bool) → (b ≡ true → ⊥) → b ≡ false
 no-true true f = absurd (f refl)
 no-true false f = refl
 
+pub not-not : (b : Bool) → not (not b) ≡ b
+not-not true = refl
+not-not false = refl
+
 -- ---- choices, and numbers
 
 module _ {B : Type 0} where
@@ -104,3 +110,18 @@ differ i j t e = T-not (eqb i j) t (rw e (eqb-refl j))
 
 pub unequal : (i j : ℕ) → (i ≡ j → ⊥) → T (not (eqb i j))
 unequal i j f = not-T (eqb i j) (λ t. f (eqb→eq i j t))
+
+-- at most as not above, and equal as not below
+pub leb-not : (a b : ℕ) → leb a b ≡ not (ltb b a)
+leb-not a b = go (ltb b a) refl
+  where
+    go : (c : Bool) → ltb b a ≡ c → leb a b ≡ not c
+    go true e = lt-leb a b (ltb-true b a e)
+    go false e = le-leb a b (ltb-false b a e)
+
+pub eqb-not : (a b : ℕ) → a ≤ b → eqb a b ≡ not (ltb a b)
+eqb-not a b h = go (ltb a b) refl
+  where
+    go : (c : Bool) → ltb a b ≡ c → eqb a b ≡ not c
+    go true e = ne-eqb a b (λ q. absurd (omega (arith, ltb-true a b e)))
+    go false e = eq-eqb a b (omega (arith, ltb-false a b e))

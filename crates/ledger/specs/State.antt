@@ -1,0 +1,68 @@
+-- Document 01, 'Ledger state'. Assumes nothing.
+use Prim.Native.Nat.{ℕ}
+use mathlib.Core.Bool.{Bool, not, _&&_, _||_}
+use mathlib.Core.List.{List}
+use mathlib.Core.Path.{_≡_}
+use lib.ListN.{length, getD, set}
+use lib.Dec.{eqb, leb, ltb}
+use lib.IntN.{ℤ, pos}
+use mir.Syntax.{w64}
+use mir.Val.{ofZ}
+use Rattle.ledger.specs.declared.Version.{Version}
+use Rattle.ledger.specs.Version.{absent, at, same, ordinary}
+
+-- "Three lists of one length K, 1 to 1024: block numbers .., places .., values in kilograms"
+pub record State : Type 0 where
+  pub blocks : List ℕ
+  pub places : List ℕ
+  pub values : List ℤ
+
+-- the three lists as one state
+abbrev pub stateOf : List ℕ → List ℕ → List ℤ → State
+stateOf b p v = record { blocks = b; places = p; values = v }
+
+-- three lists of one length
+pub record Level (b p : List ℕ) (v : List ℤ) : Type 0 where
+  pub places : length p ≡ length b
+  pub values : length v ≡ length b
+
+-- what stands at one key
+pub record Entry : Type 0 where
+  pub version : Version
+  pub value : ℤ
+
+-- "Absent is block 0, place 65535, value 0"
+abbrev pub gone : Entry
+gone = record { version = absent; value = pos 0 }
+
+-- K
+abbrev pub keys : State → ℕ
+keys s = length (s .blocks)
+
+-- "Key k is index k"
+unfoldable pub entry : State → ℕ → Entry
+entry s k = record { version = at (getD (s .blocks) k 0) (getD (s .places) k 0); value = getD (s .values) k (pos 0) }
+
+unfoldable pub store : State → ℕ → Entry → State
+store s k e = record {
+  blocks = set (s .blocks) k (e .version .block);
+  places = set (s .places) k (e .version .place);
+  values = set (s .values) k (e .value);
+}
+
+-- an entry is absent
+abbrev pub isGone : Entry → Bool
+isGone e = same (e .version) absent && eqb (ofZ w64 (e .value)) 0
+
+-- "Every other entry has a place of 0 to 63"; "every present entry must have a block number below n"
+abbrev pub wrongEntry : ℕ → Entry → Bool
+wrongEntry n e = not (isGone e || (ordinary (e .version) && ltb (e .version .block) n))
+
+-- "12: state lists unequal, empty or over 1024"
+abbrev pub wrongLengths : State → Bool
+wrongLengths s =
+    not
+    (eqb (length (s .blocks)) (length (s .places))
+    && eqb (length (s .blocks)) (length (s .values))
+    && ltb 0 (length (s .blocks))
+    && leb (length (s .blocks)) 1024)

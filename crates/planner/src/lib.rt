@@ -1,0 +1,2 @@
+// The planner: which transactions of a batch can stand together, and in which order.
+mod admission;

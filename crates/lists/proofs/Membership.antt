@@ -61,6 +61,15 @@ module _ {A : Type 0} where
       (λ u. ap (λ l. y ∷ l) (those-all p ys (λ x m. f x (List·Memᴰ·tail m))))
       (λ u. absurd (T-not (p y) u (f y (List·Memᴰ·head refl))))
 
+  pub those-none : (p : A → Bool) (xs : List A) → ((x : A) → x ∈ xs → T (not (p x))) → those p xs ≡ []
+  those-none p [] f = refl
+  those-none p (y ∷ ys) f =
+      by-test
+      (λ l. l ≡ [])
+      (p y)
+      (λ u. absurd (T-not (p y) (f y (List·Memᴰ·head refl)) u))
+      (λ u. those-none p ys (λ x m. f x (List·Memᴰ·tail m)))
+
   pub those-shorter : (p : A → Bool) (xs : List A) → length (those p xs) ≤ length xs
   those-shorter p [] = omega arith
   those-shorter p (y ∷ ys) =

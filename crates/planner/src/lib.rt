@@ -1,2 +1,3 @@
 // The planner: which transactions of a batch can stand together, and in which order.
 mod admission;
+mod schedule;

@@ -1,16 +1,16 @@
 -- Laws of members: of tests over them, of those that pass, of rearrangements, of lists without repetition, of the first numbers. Assumes nothing.
 use mathlib.Core.Bool.{Bool, true, false, not, _&&_, _||_}
-use mathlib.Core.List.{List, [], _∷_, _++_, append-nil, map, List·Memᴰ·head, List·Memᴰ·tail, List·Memᴰ·cases-cons, List·Memᴰ·not-nil, List·Memᴰ·append-cases, List·Memᴰ·eq-of-singleton, Memᴰ·append-left, Memᴰ·append-right, List·Permᴰ, List·Permᴰ·nil, List·Permᴰ·cons, List·Permᴰ·swap, List·Permᴰ·trans, Permᴰ·refl, Permᴰ·symm}
+use mathlib.Core.List.{List, [], _∷_, _++_, append-nil, map, List·Memᴰ·head, List·Memᴰ·tail, List·Memᴰ·cases-cons, List·Memᴰ·not-nil, List·Memᴰ·append-cases, List·Memᴰ·eq-of-singleton, Memᴰ·append-left, Memᴰ·append-right, List·Permᴰ, List·Permᴰ·nil, List·Permᴰ·cons, List·Permᴰ·swap, List·Permᴰ·trans, Permᴰ·refl, Permᴰ·symm, Permᴰ·middle}
 use mathlib.Core.Logic.{_⊎_, inl, inr, ⊎-elim, _↔_}
 use mathlib.Core.Path.{_≡_, refl, sym, ap, ap₂, subst, _∙_}
 use Prim.Native.Nat.{ℕ, zero, suc, _+_, _≤_, _<_}
 use native.Mathlib.Numerals.{add-one}
 use native.Mathlib.Omega.{arith}
-use lib.ListN.{length, length-append}
+use lib.ListN.{length, getD, length-append}
 use lib.Dec.{T, T-not, eqb, eqb→eq}
 use Rattle.lists.specs.Choice.{pick}
 use Rattle.lists.specs.Members.{_∈_, any, all, those, distinct, upto}
-use Rattle.lists.proofs.Tests.{both, and-left, and-right, or-left, or-right, or-cases, by-test, decide, eqb-sym, differ, unequal}
+use Rattle.lists.proofs.Tests.{both, and-left, and-right, or-left, or-right, or-cases, by-test, decide, clash, eqb-sym, differ, unequal}
 
 module _ {A : Type 0} where
   -- ---- tests over all members
@@ -33,6 +33,12 @@ module _ {A : Type 0} where
   pub all-out : (p : A → Bool) (xs : List A) → T (all p xs) → {x : A} → x ∈ xs → T (p x)
   all-out p (y ∷ ys) t (List·Memᴰ·head e) = subst (λ (z : A). T (p z)) (sym e) (and-left (p y) _ t)
   all-out p (y ∷ ys) t (List·Memᴰ·tail m) = all-out p ys (and-right (p y) _ t) m
+
+  -- what stands at an index is a member
+  pub getD-in : (xs : List A) (k : ℕ) (d : A) → k < length xs → getD xs k d ∈ xs
+  getD-in [] k d h = absurd (omega arith)
+  getD-in (x ∷ xs) zero d h = List·Memᴰ·head refl
+  getD-in (x ∷ xs) (suc k) d h = List·Memᴰ·tail (getD-in xs k d (omega arith))
 
   -- ---- those that pass
 
@@ -60,6 +66,15 @@ module _ {A : Type 0} where
       (p y)
       (λ u. ap (λ l. y ∷ l) (those-all p ys (λ x m. f x (List·Memᴰ·tail m))))
       (λ u. absurd (T-not (p y) u (f y (List·Memᴰ·head refl))))
+
+  pub those-none : (p : A → Bool) (xs : List A) → ((x : A) → x ∈ xs → T (not (p x))) → those p xs ≡ []
+  those-none p [] f = refl
+  those-none p (y ∷ ys) f =
+      by-test
+      (λ l. l ≡ [])
+      (p y)
+      (λ u. absurd (T-not (p y) (f y (List·Memᴰ·head refl)) u))
+      (λ u. those-none p ys (λ x m. f x (List·Memᴰ·tail m)))
 
   pub those-shorter : (p : A → Bool) (xs : List A) → length (those p xs) ≤ length xs
   those-shorter p [] = omega arith
@@ -99,6 +114,17 @@ module _ {A : Type 0} where
       (p x)
       (λ t. by-test (λ l. l ≡ x ∷ those p xs ++ those p ys) (p x) (λ u. ap (λ l. x ∷ l) below) (λ u. absurd (T-not (p x) u t)))
       (λ t. by-test (λ l. l ≡ those p xs ++ those p ys) (p x) (λ u. absurd (T-not (p x) t u)) (λ u. below))
+
+  -- those that pass and those that do not are all
+  pub those-parted : (p q : A → Bool) (xs : List A) → ((x : A) → q x ≡ not (p x)) → List·Permᴰ xs (those p xs ++ those q xs)
+  those-parted p q [] h = List·Permᴰ·nil
+  those-parted p q (x ∷ xs) h = go (p x) (q x) (h x) (those-parted p q xs h)
+    where
+      go : (b c : Bool) → c ≡ not b → List·Permᴰ xs (those p xs ++ those q xs) → List·Permᴰ (x ∷ xs) (pick b (x ∷ those p xs) (those p xs) ++ pick c (x ∷ those q xs) (those q xs))
+      go true true e below = absurd (clash e)
+      go true false e below = List·Permᴰ·cons refl below
+      go false true e below = List·Permᴰ·trans (List·Permᴰ·cons refl below) (Permᴰ·symm (Permᴰ·middle x (those p xs) (those q xs)))
+      go false false e below = absurd (clash (sym e))
 
   -- two tests that agree on the members
   pub any-same : (p q : A → Bool) (xs : List A) → ((x : A) → x ∈ xs → p x ≡ q x) → any p xs ≡ any q xs

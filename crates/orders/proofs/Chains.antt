@@ -1,6 +1,6 @@
 -- Laws of chains and cycles: the test for a cycle finds it, a forward order has none, and where there is none some one is free. Assumes nothing.
 use mathlib.Core.Bool.{Bool, not, _&&_}
-use mathlib.Core.List.{List, [], _∷_, _++_, List·Memᴰ·head, List·Memᴰ·tail, List·Memᴰ·cases-cons, List·Memᴰ·append-cases, List·Memᴰ·eq-of-singleton}
+use mathlib.Core.List.{List, [], _∷_, _++_, List·Memᴰ·head, List·Memᴰ·tail, List·Memᴰ·cases-cons, List·Memᴰ·append-cases, List·Memᴰ·eq-of-singleton, Memᴰ·append-right}
 use mathlib.Core.Logic.{_⊎_, inl, inr, ⊎-elim, _↔_}
 use mathlib.Core.Path.{_≡_, refl, ap, subst}
 use lib.Dec.{T, T-not, not-T}
@@ -128,6 +128,23 @@ module _ {A : Type 0} (before : A → A → Bool) where
       (λ k. let e : x ≡ a = List·Memᴰ·eq-of-singleton k in rw e (f b (List·Memᴰ·head refl)))
       (List·Memᴰ·append-cases os m)))
       (ordered-last os a (and-right (all (λ x. not (before x b)) os) _ t) (λ x m. f x (List·Memᴰ·tail m)))
+
+  -- two orders, one behind the other, where no one of the second must stand before one of the first
+  pub ordered-append : (xs ys : List A) → T (ordered before xs) → T (ordered before ys) → ((x y : A) → x ∈ xs → y ∈ ys → T (not (before y x))) → T (ordered before (xs ++ ys))
+  unfolding ordered
+  ordered-append [] ys t u f = u
+  ordered-append (b ∷ xs) ys t u f =
+      let first = and-left (all (λ a. not (before a b)) xs) _ t in
+      both (all (λ a. not (before a b)) (xs ++ ys)) _
+      (all-in (λ a. not (before a b)) (xs ++ ys) (λ x m. ⊎-elim (λ k. all-out (λ a. not (before a b)) xs first k) (λ k. f b x (List·Memᴰ·head refl) k) (List·Memᴰ·append-cases xs m)))
+      (ordered-append xs ys (and-right (all (λ a. not (before a b)) xs) _ t) u (λ x y m k. f x y (List·Memᴰ·tail m) k))
+
+  -- no one need stand before those in front of it
+  pub ordered-front : (xs : List A) (b : A) (ys : List A) → T (ordered before (xs ++ b ∷ ys)) → {x : A} → x ∈ xs → T (not (before b x))
+  unfolding ordered
+  ordered-front (x ∷ xs) b ys t (List·Memᴰ·head e) =
+      rw e (all-out (λ a. not (before a x)) (xs ++ b ∷ ys) (and-left (all (λ a. not (before a x)) (xs ++ b ∷ ys)) _ t) (Memᴰ·append-right xs (List·Memᴰ·head refl)))
+  ordered-front (x ∷ xs) b ys t (List·Memᴰ·tail m) = ordered-front xs b ys (and-right (all (λ a. not (before a x)) (xs ++ b ∷ ys)) _ t) m
 
   module _ (irr : (a : A) → T (not (before a a))) where
     module _ (b : A) (os : List A) (first : T (all (λ a. not (before a b)) os)) where

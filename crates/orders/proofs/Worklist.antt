@@ -45,6 +45,18 @@ module _ (before : ℕ → ℕ → Bool) where
     λ c. way-joined h t t .1 (cyclic-new before t ks f .0 c),
   )
 
+-- ---- the same ways, walked backwards: by the demands turned round
+
+module _ (before : ℕ → ℕ → Bool) {K : ℕ → Bool} where
+  way-last : {a d b : ℕ} → Way before K a d → K d ≡ true → before d b ≡ true → Way before K a b
+  way-last (last e) k t = step e k (last t)
+  way-last (step e l p) k t = step e l (way-last p k t)
+
+module _ (before : ℕ → ℕ → Bool) {K : ℕ → Bool} where
+  pub way-back : {a b : ℕ} → Way before K a b → Way (λ x y. before y x) K b a
+  way-back (last e) = last e
+  way-back (step e k p) = way-last (λ x y. before y x) (way-back p) k e
+
 -- ---- the worklist
 
 -- every way onward from what is reached is a way from t; t is reached; what is done does not demand t, and those in K that it demands are reached

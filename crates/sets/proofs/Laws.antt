@@ -10,7 +10,7 @@ use lib.Arith.{bin-ind}
 use borrow.Author.Tests.{eq-eqb, ne-eqb}
 use lib.Dec.{eqb}
 use lib.Bits.{bitOr, or-add-and, and-le-r}
-use Rattle.lists.proofs.Tests.{clash, and-parts, minus-some}
+use Rattle.lists.proofs.Tests.{clash, and-parts, minus-some, or-first, or-second}
 use Rattle.sets.specs.Set.{member, size, one}
 use Rattle.sets.proofs.Digits.{low, next, of-none, of-or, of-minus, of-only, of-trailing}
 
@@ -100,6 +100,10 @@ size-less m r i (suc n) e h w = ⊎-elim here (λ l. there (size-less m r i n e 
 pub without-lt : (m r i : ℕ) → member m i ≡ true → ((j : ℕ) → member r j ≡ (member m j && not (eqb i j))) → r < m
 without-lt m r i e w =
     part-lt r m i (λ j z. minus-some (member m j) (eqb i j) (sym (w j) ∙ z) .0) (w i ∙ rw (eq-eqb i i refl, and-false)) e
+
+-- and one more member makes it greater
+pub with-lt : (m r i : ℕ) → member m i ≡ false → ((j : ℕ) → member r j ≡ (member m j || eqb i j)) → m < r
+with-lt m r i e w = part-lt m r i (λ j z. w j ∙ or-first (member m j) _ z) e (w i ∙ or-second (member m i) _ (eq-eqb i i refl))
 
 pub size-le : (m r n : ℕ) → ((j : ℕ) → member r j ≡ true → member m j ≡ true) → size r n ≤ size m n
 unfolding size

@@ -1,0 +1,4 @@
+pub mod Candidates
+pub mod Placing
+pub mod Ranking
+pub mod Shifting

@@ -1,2 +1,4 @@
 pub mod Ascii
 pub mod Cases
+pub mod Serial
+pub mod Third

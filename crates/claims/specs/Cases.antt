@@ -9,8 +9,14 @@ use Rattle.refusals.specs.Outcome.{Outcome, gives, refuses}
 use Rattle.tonnage.specs.Services.{readText}
 use Rattle.ledger.specs.declared.Transaction.{Transaction}
 use Rattle.ledger.specs.Bytes.{tab}
-use Rattle.ledger.specs.Version.{absent}
-use Rattle.ledger.specs.Tx.{noRead, noWrite}
+use Rattle.ledger.specs.declared.Read.{Read}
+use Rattle.ledger.specs.declared.Write.{Write}
+use Rattle.ledger.specs.Version.{absent, at}
+use Rattle.ledger.specs.Tx.{Tx, noRead, noWrite}
+use Rattle.ledger.specs.Page.{pageOf}
+use Rattle.ledger.specs.State.{State, stateOf, Entry, entry}
+use Rattle.ledger.specs.Commit.{commitBatch}
+use Rattle.planner.specs.Plan.{Plans, planBatch}
 use Rattle.ledger.specs.Services.{readPage, writePage}
 use Rattle.claims.specs.Ascii.{ascii}
 
@@ -22,11 +28,37 @@ pub data Case : Type 0 where
   page : Transaction → List ℕ → Case
   -- a transaction, and what writing it answers
   written : Transaction → Outcome (Unit {0}) → Case
+  -- the transactions of a batch on an empty state: the verdicts and the order of its plan
+  plan : List Tx → (verdicts order : List ℕ) → Case
+  -- and what stands at a key once the out batch is committed
+  settled : List Tx → (key : ℕ) → Entry → Case
+  -- the verdicts of a commit of them, and what then stands at a key
+  commit : List Tx → (verdicts : List ℕ) → (key : ℕ) → Entry → Case
+
+-- eight absent keys; the number of the batch; the pages of some transactions
+abbrev pub fresh : State
+fresh = stateOf (replicate 8 0) (replicate 8 65535) (replicate 8 (pos 0))
+
+abbrev pub number : ℕ
+number = 7
+
+unfoldable pub batchOf : List Tx → List ℕ
+batchOf [] = []
+batchOf (x ∷ xs) = pageOf x ++ batchOf xs
+
+-- what plan leaves of lists of nines
+abbrev pub planOf : List Tx → Plans
+planOf xs = planBatch (batchOf xs) fresh number (replicate 2 9) (replicate 2 9) (replicate 1024 9)
 
 -- what a case says
 abbrev pub Holds : Case → Type 0
 Holds (text t o) = readText (ascii t) ≡ o
 Holds (page t b) = (writePage (replicate 512 0) 0 t ≡ record { answer = gives tt; batch = b }) × (readPage b .transaction ≡ t)
+Holds (plan xs vs os) = (planOf xs .verdicts ≡ vs) × (planOf xs .order ≡ os)
+Holds (settled xs k e) = entry (commitBatch (planOf xs .out) fresh number (replicate 2 9) .state) k ≡ e
+Holds (commit xs vs k e) =
+    (commitBatch (batchOf xs) fresh number (replicate 2 9) .verdicts ≡ vs)
+    × (entry (commitBatch (batchOf xs) fresh number (replicate 2 9) .state) k ≡ e)
 Holds (written t o) = writePage (replicate 512 0) 0 t .answer ≡ o
 
 -- each case of a list holds
@@ -60,8 +92,35 @@ bytes7 =
     (0x54 ∷ 0x00 ∷ 0x01 ∷ 0x00 ∷ 0x07 ∷ 0x00 ∷ 0x00 ∷ 0x00 ∷ 0x05 ∷ 0x00 ∷ 0x00 ∷ 0x00 ∷ 0x30 ∷ 0x0b ∷ 0x01 ∷ [])
     ++ (replicate 493 0 ++ (0xc0 ∷ 0x03 ∷ 0x00 ∷ 0x00 ∷ []))
 
+-- a transaction that reads keys as absent and puts values on keys
+abbrev pub tx : ℕ → List Read → List Write → Tx
+tx t rs ws = record { ticket = t; reads = rs; writes = ws }
+
+abbrev pub none : ℕ → Read
+none k = record { key = k; version = absent }
+
+abbrev pub put : ℕ → ℕ → Write
+put k v = record { key = k; kind = 0; value = pos v }
+
+-- "P: two transactions that each read and write key 3: the lower ticket is kept, the other gets 2."
+abbrev pub clash : List Tx
+clash = tx 9 (none 3 ∷ []) (put 3 1 ∷ []) ∷ tx 4 (none 3 ∷ []) (put 3 2 ∷ []) ∷ []
+
+-- "P: A reads 1, B writes 1: B with the lower ticket still stands after A."
+abbrev pub reader : List Tx
+reader = tx 3 [] (put 1 5 ∷ []) ∷ tx 8 (none 1 ∷ []) [] ∷ []
+
+-- "P: two writers of key 3 that read nothing: both kept, lower ticket first, the higher ticket's value stays."
+abbrev pub writers : List Tx
+writers = tx 8 [] (put 3 5 ∷ []) ∷ tx 3 [] (put 3 6 ∷ []) ∷ []
+
+-- "P: commit of page 0 failing, page 1 passing: page 1 writes version (n, 1)."
+abbrev pub failing : List Tx
+failing = tx 1 (record { key = 2; version = at 0 0 } ∷ []) (put 2 7 ∷ []) ∷ tx 2 [] (put 4 9 ∷ []) ∷ []
+
 -- "P: "68,400" is 68400; "-0,050" is -50; "684" and "-0,000" give 18."
 -- "P: ticket 7, no reads, put 68400 on key 5 .."; "P: r 25, w 25 fits exactly; r 26, w 25 is refused with 5."
+-- and the four cases above, each on both pages of its batch
 abbrev pub table : List Case
 table =
     text "68,400" (gives (pos 68400)) ∷
@@ -71,4 +130,9 @@ table =
     page ticket7 bytes7 ∷
     written (counted 25 25) (gives tt) ∷
     written (counted 26 25) (refuses 5 0) ∷
+    plan clash (2 ∷ 0 ∷ []) (1 ∷ 9 ∷ []) ∷
+    plan reader (0 ∷ 0 ∷ []) (1 ∷ 0 ∷ []) ∷
+    plan writers (0 ∷ 0 ∷ []) (1 ∷ 0 ∷ []) ∷
+    settled writers 3 (record { version = at number 1; value = pos 5 }) ∷
+    commit failing (3 ∷ 0 ∷ []) 4 (record { version = at number 1; value = pos 9 }) ∷
     []

@@ -15,6 +15,13 @@ use Rattle.ledger.specs.declared.PageRead.{PageRead}
 use Rattle.ledger.specs.declared.PageWrite.{PageWrite}
 use Rattle.ledger.specs.declared.PageWrite.the-variants.{Written, Unwritten}
 use Rattle.ledger.specs.Services.{Counts, checked, checkPage, Taken, taken, readPage, Put, put, writePage}
+use Rattle.ledger.specs.declared.Committed.{Committed}
+use Rattle.ledger.specs.declared.Committed.the-variants.{Passed, Uncommitted}
+use Rattle.ledger.specs.State.{State}
+use Rattle.ledger.specs.Commit.{Commits, committed, commitBatch}
+use Rattle.planner.specs.declared.Planned.{Planned}
+use Rattle.planner.specs.declared.Planned.the-variants.{Kept, Unplanned}
+use Rattle.planner.specs.Plan.{Plans, planned, planBatch}
 use Rattle.tonnage.specs.Services.{read, readText, Written as WrittenText, wrote, writeText}
 
 -- a refusal is its number and its place
@@ -87,3 +94,57 @@ pub write-page :
 write-page batch index t x y b c h k =
     let e = h ∙ sym k in
     (one-put x y b c (ap (λ (w : Put). w .answer) e), sym (left-batch x b) ∙ ap (λ (w : Put). w .batch) e ∙ left-batch y c)
+
+-- ---- batches
+
+one-committed : (x y : Committed) (s t : State) (vs ws : List ℕ) → committed x s vs .answer ≡ committed y t ws .answer → x ≡ y
+one-committed (Passed j) (Passed k) s t vs ws e = cc
+one-committed (Passed j) (Uncommitted r) s t vs ws e = cc
+one-committed (Uncommitted r) (Passed k) s t vs ws e = cc
+one-committed (Uncommitted r) (Uncommitted q) s t vs ws e = ap Uncommitted (same-refusal r q (cc) (cc))
+
+left-state : (x : Committed) (s : State) (vs : List ℕ) → committed x s vs .state ≡ s
+left-state (Passed k) s vs = refl
+left-state (Uncommitted r) s vs = refl
+
+left-verdicts : (x : Committed) (s : State) (vs : List ℕ) → committed x s vs .verdicts ≡ vs
+left-verdicts (Passed k) s vs = refl
+left-verdicts (Uncommitted r) s vs = refl
+
+-- committing a batch: the answer, the three lists and the verdicts
+pub commit-batch :
+    (batch : List ℕ) (s : State) (n : ℕ) (lent : List ℕ) (x y : Committed) (t u : State) (vs ws : List ℕ) →
+    committed x t vs ≡ commitBatch batch s n lent → committed y u ws ≡ commitBatch batch s n lent →
+    (x ≡ y) × (t ≡ u) × (vs ≡ ws)
+commit-batch batch s n lent x y t u vs ws h k =
+    let e = h ∙ sym k in (
+      one-committed x y t u vs ws (ap (λ (c : Commits). c .answer) e),
+      sym (left-state x t vs) ∙ ap (λ (c : Commits). c .state) e ∙ left-state y u ws,
+      sym (left-verdicts x t vs) ∙ ap (λ (c : Commits). c .verdicts) e ∙ left-verdicts y u ws,
+    )
+
+one-planned : (x y : Planned) (vs ws os qs b c : List ℕ) → planned x vs os b .answer ≡ planned y ws qs c .answer → x ≡ y
+one-planned (Kept j) (Kept k) vs ws os qs b c e = cc
+one-planned (Kept j) (Unplanned r) vs ws os qs b c e = cc
+one-planned (Unplanned r) (Kept k) vs ws os qs b c e = cc
+one-planned (Unplanned r) (Unplanned q) vs ws os qs b c e = ap Unplanned (same-refusal r q (cc) (cc))
+
+-- what stands in the lent lists
+lent-lists : (x : Planned) (vs os b : List ℕ) → (planned x vs os b .verdicts ≡ vs) × (planned x vs os b .order ≡ os) × (planned x vs os b .out ≡ b)
+lent-lists (Kept k) vs os b = (refl, refl, refl)
+lent-lists (Unplanned r) vs os b = (refl, refl, refl)
+
+-- planning a batch: the answer, the verdicts, the order list and the out batch
+pub plan-batch :
+    (batch : List ℕ) (s : State) (n : ℕ) (v o w : List ℕ) (x y : Planned) (vs ws os qs b c : List ℕ) →
+    planned x vs os b ≡ planBatch batch s n v o w → planned y ws qs c ≡ planBatch batch s n v o w →
+    (x ≡ y) × (vs ≡ ws) × (os ≡ qs) × (b ≡ c)
+plan-batch batch s n v o w x y vs ws os qs b c h k =
+    let e = h ∙ sym k in
+    let l = lent-lists x vs os b in
+    let r = lent-lists y ws qs c in (
+      one-planned x y vs ws os qs b c (ap (λ (p : Plans). p .answer) e),
+      sym (l .0) ∙ ap (λ (p : Plans). p .verdicts) e ∙ r .0,
+      sym (l .1) ∙ ap (λ (p : Plans). p .order) e ∙ r .1,
+      sym (l .2) ∙ ap (λ (p : Plans). p .out) e ∙ r .2,
+    )

@@ -1,3 +1,4 @@
+pub mod Empty
 pub mod Outcomes
 pub mod Pages
 pub mod Table

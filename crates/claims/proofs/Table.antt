@@ -1,5 +1,9 @@
 -- The table of the P cases, proved by computation. Assumes nothing.
+use mathlib.Core.List.{[], _∷_}
 use mathlib.Core.Path.{refl}
+use lib.IntN.{pos}
+use Rattle.refusals.specs.Outcome.{gives, refuses}
+use Rattle.ledger.specs.Version.{at}
 use Rattle.lists.specs.Search.{seek, firstIn}
 use Rattle.tonnage.specs.Text.{follow, size, laid, form, figure}
 use Rattle.tonnage.specs.Services.{readText}
@@ -9,20 +13,20 @@ use Rattle.ledger.specs.Page.{countFault, entryFault, headFault, pageFault, pag
 use Rattle.ledger.specs.Services.{readPage, writeFault, writePage}
 use Rattle.ledger.specs.State.{entry, store}
 use Rattle.ledger.specs.Gate.{lowest, pagesFault, gateFault, txs}
-use Rattle.ledger.specs.Commit.{passes, write, afterPage, commit, verdicts, passed, commits, commitBatch}
+use Rattle.ledger.specs.Commit.{passes, write, afterPage, commit as commitAll, verdicts, passed, commits, commitBatch}
 use Rattle.orders.specs.Chain.{joined, cyclic}
 use Rattle.orders.specs.Admission.{admit}
 use Rattle.orders.specs.Arrange.{lowest as lowestTicket, without, arrange, byTicket, free, schedule}
 use Rattle.lists.specs.Members.{upto}
-use Rattle.planner.specs.Plan.{reader, before, sequence, kept, verdict, order, gathered, plans, planBatch}
+use Rattle.planner.specs.Plan.{reader as readerOf, before, sequence, kept, verdict, order, gathered, plans, planBatch}
 use Rattle.claims.specs.Ascii.{ascii}
-use Rattle.claims.specs.Cases.{Hold, table, batchOf}
+use Rattle.claims.specs.Cases.{text, plan, commit, written, Holds, Hold, table, number, batchOf, counted, clash, reader, failing}
 
 -- every case that document 01 marks P holds of the definitions that the promises cite
 pub cases : Hold table
 unfolding ascii readText form laid firstIn seek size follow figure writePage writeFault countFault entryFault valueTx floorOf pageOf bodyOf weighed le flat tab readPage pageFault headFault pageTx field padded
-    batchOf gateFault lowest pagesFault txs entry store passes write afterPage commit verdicts passed commits commitBatch
-    joined cyclic admit lowestTicket without arrange byTicket free schedule upto reader before sequence kept verdict order gathered plans planBatch
+    batchOf gateFault lowest pagesFault txs entry store passes write afterPage commitAll verdicts passed commits commitBatch
+    joined cyclic admit lowestTicket without arrange byTicket free schedule upto readerOf before sequence kept verdict order gathered plans planBatch
 cases = (
   refl,
   (
@@ -37,7 +41,7 @@ cases = (
             refl,
             (
               refl,
-              ((refl, refl), ((refl, refl), ((refl, refl), (refl, ((refl, refl), tt))))),
+              ((refl, refl, refl), ((refl, refl, refl), ((refl, refl, refl), (refl, ((refl, refl, refl), tt))))),
             ),
           ),
         ),
@@ -45,3 +49,22 @@ cases = (
     ),
   ),
 )
+
+-- some of its rows, by name
+pub text-plain : Holds (text "68,400" (gives (pos 68400)))
+text-plain = cases .0
+
+pub text-no-comma : Holds (text "684" (refuses 18 0))
+text-no-comma = cases .1 .1 .0
+
+pub room-25 : Holds (written (counted 25 25) (gives tt))
+room-25 = cases .1 .1 .1 .1 .1 .0
+
+pub plan-clash : Holds (plan clash 1 (2 ∷ 0 ∷ []) (1 ∷ 9 ∷ []))
+plan-clash = cases .1 .1 .1 .1 .1 .1 .1 .0
+
+pub plan-reader : Holds (plan reader 2 (0 ∷ 0 ∷ []) (1 ∷ 0 ∷ []))
+plan-reader = cases .1 .1 .1 .1 .1 .1 .1 .1 .0
+
+pub commit-failing : Holds (commit failing 1 (3 ∷ 0 ∷ []) 4 (record { version = at number 1; value = pos 9 }))
+commit-failing = cases .1 .1 .1 .1 .1 .1 .1 .1 .1 .1 .1 .0

@@ -20,7 +20,7 @@ use Rattle.tonnage.proofs.RoundTrip.{accepted-written, written-accepted}
 use Rattle.tonnage.proofs.Sentence.{grammar-form}
 use Rattle.claims.specs.Ascii.{ascii}
 use Rattle.claims.proofs.Outcomes.{apart, value, number, place}
-use Rattle.claims.proofs.Table.{cases}
+use Rattle.claims.proofs.Table.{text-no-comma}
 
 -- ---- reading: demand 1, "A refusal carries the number that document 01 gives it, exactly when 01 says"
 
@@ -65,7 +65,7 @@ module _ (text : List ℕ) where
 
 -- each number is given on some text
 pub given-18 : readText (ascii "684") ≡ refuses 18 0
-given-18 = cases .1 .1 .0
+given-18 = text-no-comma
 
 pub given-19 : readText (ascii "9223372036854775,808") ≡ refuses 19 0
 unfolding ascii readText form laid firstIn seek size follow figure

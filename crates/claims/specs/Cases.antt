@@ -15,7 +15,7 @@ use Rattle.ledger.specs.Version.{absent, at}
 use Rattle.ledger.specs.Tx.{Tx, noRead, noWrite}
 use Rattle.ledger.specs.Page.{pageOf}
 use Rattle.ledger.specs.State.{State, stateOf, Entry, entry}
-use Rattle.ledger.specs.Commit.{commitBatch}
+use Rattle.ledger.specs.Commit.{Commits, commitBatch}
 use Rattle.planner.specs.Plan.{Plans, planBatch}
 use Rattle.ledger.specs.Services.{readPage, writePage}
 use Rattle.claims.specs.Ascii.{ascii}
@@ -28,12 +28,12 @@ pub data Case : Type 0 where
   page : Transaction → List ℕ → Case
   -- a transaction, and what writing it answers
   written : Transaction → Outcome (Unit {0}) → Case
-  -- the transactions of a batch on an empty state: the verdicts and the order of its plan
-  plan : List Tx → (verdicts order : List ℕ) → Case
+  -- the transactions of a batch on an empty state: the kept count, the verdicts and the order of its plan
+  plan : List Tx → (count : ℕ) → (verdicts order : List ℕ) → Case
   -- and what stands at a key once the out batch is committed
   settled : List Tx → (key : ℕ) → Entry → Case
-  -- the verdicts of a commit of them, and what then stands at a key
-  commit : List Tx → (verdicts : List ℕ) → (key : ℕ) → Entry → Case
+  -- the passing count and the verdicts of a commit of them, and what then stands at a key
+  commit : List Tx → (count : ℕ) → (verdicts : List ℕ) → (key : ℕ) → Entry → Case
 
 -- eight absent keys; the number of the batch; the pages of some transactions
 abbrev pub fresh : State
@@ -50,15 +50,18 @@ batchOf (x ∷ xs) = pageOf x ++ batchOf xs
 abbrev pub planOf : List Tx → Plans
 planOf xs = planBatch (batchOf xs) fresh number (replicate 2 9) (replicate 2 9) (replicate 1024 9)
 
+-- what commit leaves
+abbrev pub commitOf : List Tx → Commits
+commitOf xs = commitBatch (batchOf xs) fresh number (replicate 2 9)
+
 -- what a case says
 abbrev pub Holds : Case → Type 0
 Holds (text t o) = readText (ascii t) ≡ o
 Holds (page t b) = (writePage (replicate 512 0) 0 t ≡ record { answer = gives tt; batch = b }) × (readPage b .transaction ≡ t)
-Holds (plan xs vs os) = (planOf xs .verdicts ≡ vs) × (planOf xs .order ≡ os)
+Holds (plan xs k vs os) = (planOf xs .answer ≡ gives k) × (planOf xs .verdicts ≡ vs) × (planOf xs .order ≡ os)
 Holds (settled xs k e) = entry (commitBatch (planOf xs .out) fresh number (replicate 2 9) .state) k ≡ e
-Holds (commit xs vs k e) =
-    (commitBatch (batchOf xs) fresh number (replicate 2 9) .verdicts ≡ vs)
-    × (entry (commitBatch (batchOf xs) fresh number (replicate 2 9) .state) k ≡ e)
+Holds (commit xs c vs k e) =
+    (commitOf xs .answer ≡ gives c) × (commitOf xs .verdicts ≡ vs) × (entry (commitOf xs .state) k ≡ e)
 Holds (written t o) = writePage (replicate 512 0) 0 t .answer ≡ o
 
 -- each case of a list holds
@@ -130,9 +133,9 @@ table =
     page ticket7 bytes7 ∷
     written (counted 25 25) (gives tt) ∷
     written (counted 26 25) (refuses 5 0) ∷
-    plan clash (2 ∷ 0 ∷ []) (1 ∷ 9 ∷ []) ∷
-    plan reader (0 ∷ 0 ∷ []) (1 ∷ 0 ∷ []) ∷
-    plan writers (0 ∷ 0 ∷ []) (1 ∷ 0 ∷ []) ∷
+    plan clash 1 (2 ∷ 0 ∷ []) (1 ∷ 9 ∷ []) ∷
+    plan reader 2 (0 ∷ 0 ∷ []) (1 ∷ 0 ∷ []) ∷
+    plan writers 2 (0 ∷ 0 ∷ []) (1 ∷ 0 ∷ []) ∷
     settled writers 3 (record { version = at number 1; value = pos 5 }) ∷
-    commit failing (3 ∷ 0 ∷ []) 4 (record { version = at number 1; value = pos 9 }) ∷
+    commit failing 1 (3 ∷ 0 ∷ []) 4 (record { version = at number 1; value = pos 9 }) ∷
     []

@@ -1,5 +1,9 @@
+pub mod Demand3
+pub mod OutBatch
 pub mod Outcomes
 pub mod Pages
+pub mod Planning
+pub mod Running
 pub mod Table
 pub mod Texts
 pub mod Unique

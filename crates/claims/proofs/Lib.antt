@@ -1,4 +1,5 @@
 pub mod Demand3
+pub mod Each
 pub mod Empty
 pub mod OutBatch
 pub mod Outcomes

@@ -5,12 +5,12 @@ use mathlib.Core.Path.{_≡_, refl}
 use lib.ListN.{replicate, set}
 use lib.IntN.{pos}
 use Rattle.lists.specs.Search.{seek, firstIn}
-use Rattle.refusals.specs.Outcome.{Outcome, gives, refuses}
+use Rattle.refusals.specs.Outcome.{Outcome, refuses}
 use Rattle.tonnage.specs.Text.{digits, widthIn, width, textOf}
 use Rattle.tonnage.specs.Services.{writeText}
 use Rattle.ledger.specs.Bytes.{field, weighed, le, flat, tab}
 use Rattle.ledger.specs.Version.{at}
-use Rattle.ledger.specs.Tx.{Tx, valueTx, floorOf}
+use Rattle.ledger.specs.Tx.{valueTx, floorOf}
 use Rattle.ledger.specs.Page.{countFault, entryFault, headFault, pageFault, pageTx, bodyOf, pageOf}
 use Rattle.ledger.specs.Services.{readPage, checkPage, writeFault, writePage}
 use Rattle.ledger.specs.State.{State, stateOf, entry}

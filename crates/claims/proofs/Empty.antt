@@ -1,24 +1,22 @@
 -- The empty programs of document 01, 'What the contracts have to pin', each shut out by an input on which the promise forces something else. Assumes nothing.
 use Prim.Native.Nat.{ℕ, _<_}
 use native.Mathlib.Omega.{arith}
-use mathlib.Core.List.{List, [], _∷_}
+use mathlib.Core.List.{List}
 use mathlib.Core.Path.{_≡_, refl, sym, ap, _∙_}
-use lib.ListN.{length, getD, replicate}
-use lib.IntN.{ℤ, pos}
-use Rattle.refusals.specs.Outcome.{Outcome, gives, refuses}
+use lib.ListN.{getD, replicate}
+use Rattle.refusals.specs.Outcome.{gives, refuses}
 use Rattle.ledger.specs.declared.Transaction.{Transaction}
-use Rattle.ledger.specs.declared.Version.{Version}
 use Rattle.ledger.specs.State.{State, Entry, entry}
-use Rattle.ledger.specs.Services.{readPage, writePage}
+use Rattle.ledger.specs.Services.{writePage}
 use Rattle.ledger.specs.Version.{at}
 use Rattle.ledger.specs.Gate.{pages, txAt}
-use Rattle.ledger.specs.Page.{pageTx, pageAt, pageOf, bodyOf}
+use Rattle.ledger.specs.Page.{pageTx, pageOf, bodyOf}
 use Rattle.ledger.specs.Bytes.{weighed, le, flat, tab, field}
 use Rattle.ledger.specs.Commit.{passes, write, afterPage, commitBatch}
 use Rattle.planner.specs.Plan.{planBatch}
-use Rattle.tonnage.specs.Services.{readText, writeText}
+use Rattle.tonnage.specs.Services.{readText}
 use Rattle.claims.specs.Ascii.{ascii}
-use Rattle.claims.specs.Cases.{fresh, number, batchOf, planOf, commitOf, clash, reader, writers, failing, ticket7, counted}
+use Rattle.claims.specs.Cases.{fresh, number, batchOf, planOf, commitOf, clash, reader, failing, counted}
 use Rattle.claims.proofs.Outcomes.{apart, value}
 use Rattle.claims.proofs.Table as table
 

@@ -2,18 +2,18 @@
 use Prim.Native.Nat.{ℕ, _+_, _*_, _/_, _^_, _<_, _≤_}
 use native.Mathlib.Omega.{arith}
 use mathlib.Core.Bool.{Bool, true, false, not, true≢false}
-use mathlib.Core.List.{List, [], _∷_}
-use mathlib.Core.Logic.{_⊎_, inl, inr, ⊎-elim}
-use mathlib.Core.Path.{_≡_, refl, sym, ap, ap₂, _∙_}
+use mathlib.Core.List.{List, []}
+use mathlib.Core.Logic.{_⊎_, ⊎-elim}
+use mathlib.Core.Path.{_≡_, refl, sym, ap, _∙_}
 use lib.ListN.{length, getD, set}
-use lib.Dec.{eqb, ltb}
-use borrow.Author.Tests.{eqb-true, eqb-false, ltb-true, lt-ltb, eq-eqb}
-use Rattle.refusals.specs.Outcome.{Outcome, gives, refuses}
+use lib.Dec.{eqb}
+use borrow.Author.Tests.{eqb-true, eqb-false, ltb-true, lt-ltb}
+use Rattle.refusals.specs.Outcome.{Outcome, gives}
 use Rattle.ledger.specs.declared.Transaction.{Transaction}
-use Rattle.ledger.specs.Bytes.{Small, tab, weighed}
+use Rattle.ledger.specs.Bytes.{Small, weighed}
 use Rattle.ledger.specs.Tx.{Tx, valueTx, padded, TransactionFits}
 use Rattle.ledger.specs.Page.{_then_, fault, countFault, entryFault, pageTx, pageOf, pageFault, pageAt, placed}
-use Rattle.ledger.specs.Services.{Counts, checkPage, Taken, readPage, Put, writeFault, writePage}
+use Rattle.ledger.specs.Services.{Counts, Taken, readPage, Put, writeFault, writePage}
 use Rattle.ledger.proofs.Back.{page-back}
 use Rattle.ledger.proofs.Exact.{page-exact}
 use Rattle.ledger.proofs.Faults as faults

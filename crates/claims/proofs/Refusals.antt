@@ -1,9 +1,8 @@
 -- Demand 1: a number is given, with its place, exactly when the table says so, and a refusal changes nothing. Assumes nothing.
-use Prim.Native.Nat.{ℕ, zero, suc, _+_, _-_, _/_, _%_, _<_, _≤_}
+use Prim.Native.Nat.{ℕ, suc, _+_, _/_}
 use native.Mathlib.Omega.{arith}
-use native.Mathlib.Nat.{add-suc, suc-add}
 use mathlib.Core.Bool.{Bool, true, false, not, _||_, _&&_, true≢false, false≢true}
-use mathlib.Core.List.{List, [], _∷_, _++_}
+use mathlib.Core.List.{List, [], _∷_}
 use mathlib.Core.Logic.{_↔_}
 use mathlib.Core.Path.{_≡_, refl, sym, ap, ap₂, _∙_}
 use lib.ListN.{length, getD}
@@ -14,7 +13,7 @@ use Rattle.ledger.specs.Bytes.{field, weighed, set?}
 use Rattle.ledger.specs.Tx.{Tx, valueTx, readOf, writeOf, readOutOfTurn, writeOutOfTurn, wrongVersion, wrongKind}
 use borrow.Author.Tests.{ltb-true, eqb-true, eqb-false, ne-eqb}
 use Rattle.lists.specs.Choice.{pick}
-use Rattle.lists.specs.Search.{seek, firstIn, someIn}
+use Rattle.lists.specs.Search.{firstIn, someIn}
 use Rattle.lists.specs.Members.{all}
 use Rattle.lists.proofs.Searches.{first-same, holds}
 use Rattle.refusals.specs.Outcome.{Outcome, gives, refuses}
@@ -22,8 +21,8 @@ use Rattle.refusals.specs.Fault.{Fault, clear, fault, _orElse_, at}
 use Rattle.ledger.specs.declared.Transaction.{Transaction}
 use Rattle.ledger.specs.Page.{readCount, writeCount, size, _then_, countFault, entryFault, headFault, pageFault, pageTx, pageAt}
 use Rattle.ledger.specs.Page.{fault as numbered}
-use Rattle.ledger.specs.Services.{Counts, checkPage, Taken, readPage, Put, writeFault, writePage}
-use Rattle.ledger.specs.State.{State, keys, entry, wrongEntry, wrongLengths}
+use Rattle.ledger.specs.Services.{checkPage, readPage, Put, writeFault, writePage}
+use Rattle.ledger.specs.State.{State, keys, entry, wrongEntry}
 use Rattle.ledger.specs.Gate.{pages, txAt, lowest, again, beyond, pagesFault, gateFault}
 use Rattle.ledger.specs.Commit.{Commits, commits, commitBatch}
 use Rattle.planner.specs.Plan.{Plans, plans, short, sequence, planBatch}

@@ -1,17 +1,17 @@
 -- Demands 1 and 2 for tonnage texts: which number is given when, and the round trips. Assumes nothing.
-use Prim.Native.Nat.{ℕ, _<_, _≤_}
+use Prim.Native.Nat.{ℕ, _<_}
 use native.Mathlib.Omega.{arith}
 use mathlib.Core.Bool.{Bool, true, false, true≢false}
 use mathlib.Core.List.{List, _++_}
 use mathlib.Core.Logic.{_⊎_, inl, inr, _↔_}
 use mathlib.Core.Path.{_≡_, refl, sym, ap, _∙_}
 use lib.ListN.{length, take, drop}
-use lib.IntN.{ℤ, pos, negsuc}
+use lib.IntN.{ℤ}
 use lib.Dec.{leb}
 use lib.Seq.{take-append-seam}
 use borrow.Author.Tests.{leb-true, leb-false}
 use Rattle.lists.specs.Choice.{pick}
-use Rattle.refusals.specs.Outcome.{Outcome, gives, refuses}
+use Rattle.refusals.specs.Outcome.{gives, refuses}
 use Rattle.lists.specs.Search.{seek, firstIn}
 use Rattle.tonnage.specs.Text.{follow, size, laid, form, figure, textOf}
 use Rattle.tonnage.specs.Grammar.{Tonnage}

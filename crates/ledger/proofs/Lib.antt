@@ -12,7 +12,6 @@ pub mod Faults
 pub mod Exact
 pub mod Noticed
 pub mod Back
-pub mod Cases
 pub mod Pages
 pub mod Rising
 pub mod Entries

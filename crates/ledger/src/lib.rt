@@ -1,4 +1,4 @@
-// The ledger: pages, and below them versions and numbers in bytes.
+// The ledger: pages, the state, the one gate of a batch, version check and commit.
 use refusals::Refusal;
 
 // A version: a block number and a place.

@@ -1,8 +1,8 @@
 // Rule 4: the order of the kept, by rank.
 ghost use mathlib.Core.Path.{_≡_};
-ghost use mathlib.Core.Bool.{true, false};
+ghost use mathlib.Core.Bool.{false};
 ghost use mathlib.Core.List.{_++_, map};
-ghost use Prim.Native.Nat.{ℕ, _≤_, _<_};
+ghost use Prim.Native.Nat.{_≤_, _<_};
 ghost use lib.ListN.{length, drop};
 ghost use Rattle.orders.specs.Arrange.{schedule};
 ghost use Rattle.orders.specs.Chain.{cyclic};

@@ -1,7 +1,7 @@
 // Runs of decimal digits.
 ghost use mathlib.Core.Path.{_≡_};
 ghost use Prim.Native.Nat.{_+_, _*_, _-_, _≤_, _<_, min};
-ghost use lib.ListN.{length, getD};
+ghost use lib.ListN.{length};
 ghost use lib.Seq.{sets, slice};
 ghost use Rattle.lists.specs.Search.{firstIn};
 ghost use Rattle.tonnage.specs.Text.{other, follow, digits, width, beyond};

@@ -1,8 +1,6 @@
 // The form of a tonnage text.
 use crate::digits;
 ghost use mathlib.Core.Path.{_≡_};
-ghost use Prim.Native.Nat.{_≤_};
-ghost use lib.ListN.{length};
 ghost use Rattle.tonnage.specs.Text.{minus, start, laid};
 
 // How many bytes the comma and the three digits behind it take.

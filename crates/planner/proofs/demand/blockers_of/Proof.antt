@@ -63,7 +63,7 @@ loop-again c =
     )
 
 without-requires : tie.Need-without-requires Inv-loop μ-loop
-without-requires c κs = start (c .before) .pre .1
+without-requires c κs = omega (arith, start (c .before) .pre .1)
 
 returns : tie.Need-returns Inv-loop μ-loop
 returns c =

@@ -79,7 +79,7 @@ placed-requires : tie.Need-placed-requires
 placed-requires c κs =
     let f = c .before .before .before .before in
     let s = start (found (ranked (judged f))) in
-    (omega (arith, room (judged f), f .fill-order .ensures .0, f .fill-order .kept .1 .1 .1 .0, s .pre .1 .1 .1), λ j h. omega (arith, low f j h, s .pre .0 .few))
+    (omega (arith, room (judged f), f .fill-order .ensures .0, f .fill-order .kept .1 .1 .1 .0, s .pre .1 .1 .1), λ j h. let within : j < f .fill-order .result = omega arith in omega (arith, low f j within, s .pre .0 .few))
 
 fill-verdicts-requires : tie.Need-fill-verdicts-requires
 fill-verdicts-requires c κs =
@@ -95,7 +95,7 @@ fill-out-requires c κs =
         omega (arith, room (judged f), f .fill-order .ensures .0, f .fill-order .kept .1 .1 .1 .0, s .pre .1 .1 .1),
         omega (arith, room (judged f), f .fill-order .ensures .0, s .pre .1 .1 .1),
       ),
-      λ j h. omega (arith, low f j h, s .pre .0 .whole),
+      λ j h. let within : j < f .fill-order .result = omega arith in omega (arith, low f j within, s .pre .0 .whole),
     )
 
 same-length : tie.Need-same-length

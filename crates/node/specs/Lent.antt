@@ -1,0 +1,110 @@
+-- What the node's services leave in what was lent to them, by the outcomes of the services below. Assumes nothing.
+use Prim.Native.Nat.{ℕ}
+use mathlib.Core.List.{List, [], _∷_, map}
+use lib.ListN.{length, getD}
+use lib.IntN.{ℤ, pos}
+use Rattle.refusals.specs.Outcome.{Outcome, gives, refuses}
+use Rattle.tonnage.specs.Services.{readText, Written}
+use Rattle.ledger.specs.declared.Read.{Read}
+use Rattle.ledger.specs.declared.Write.{Write}
+use Rattle.ledger.specs.declared.Transaction.{Transaction}
+use Rattle.ledger.specs.Bytes.{tab}
+use Rattle.ledger.specs.Version.{at}
+use Rattle.ledger.specs.Services.{readPage, Put}
+use Rattle.ledger.specs.State.{State}
+use Rattle.ledger.specs.Commit.{Commits}
+use Rattle.planner.specs.Plan.{Plans}
+use Rattle.node.specs.Word.{upper, word, bare}
+
+-- ---- a transaction as the node lends it: the number of reads, of writes and the ticket, and six arrays of 32
+
+pub record Arrays : Type 0 where
+  pub head : List ℕ
+  pub readKeys : List ℕ
+  pub readPlaces : List ℕ
+  pub readBlocks : List ℕ
+  pub writeKeys : List ℕ
+  pub writeKinds : List ℕ
+  pub writeValues : List ℤ
+
+-- the transaction in them
+unfoldable pub lentTx : Arrays → Transaction
+lentTx a = record {
+  ticket = getD (a .head) 2 0;
+  r = getD (a .head) 0 0;
+  w = getD (a .head) 1 0;
+  reads = tab 32 (λ i. record { key = getD (a .readKeys) i 0; version = at (getD (a .readBlocks) i 0) (getD (a .readPlaces) i 0) });
+  writes = tab 32 (λ i. record { key = getD (a .writeKeys) i 0; kind = getD (a .writeKinds) i 0; value = getD (a .writeValues) i (pos 0) });
+}
+
+-- and a transaction laid out in them
+unfoldable pub arraysOf : Transaction → Arrays
+arraysOf t = record {
+  head = t .r ∷ t .w ∷ t .ticket ∷ [];
+  readKeys = map (λ x. x .key) (t .reads);
+  readPlaces = map (λ x. x .version .place) (t .reads);
+  readBlocks = map (λ x. x .version .block) (t .reads);
+  writeKeys = map (λ x. x .key) (t .writes);
+  writeKinds = map (λ x. x .kind) (t .writes);
+  writeValues = map (λ x. x .value) (t .writes);
+}
+
+-- ---- reading a page
+
+pub record PageLeft : Type 0 where
+  pub word : ℕ
+  pub arrays : Arrays
+
+-- the transaction on a good page; "On a refusal nothing lent changes, head and the six arrays .. included"
+unfoldable pub pageLeft : List ℕ → Arrays → PageLeft
+pageLeft p a =
+    elim (readPage p .answer) [
+      | gives c ↦ record { word = 0; arrays = arraysOf (readPage p .transaction) }
+      | refuses n q ↦ record { word = upper n q; arrays = a }
+    ]
+
+-- ---- reading a tonnage text
+
+pub record TextLeft : Type 0 where
+  pub word : ℕ
+  pub kilograms : ℤ
+
+unfoldable pub textLeft : List ℕ → ℤ → TextLeft
+textLeft text z =
+    elim (readText text) [
+      | gives y ↦ record { word = 0; kilograms = y }
+      | refuses n q ↦ record { word = upper n q; kilograms = z }
+    ]
+
+-- ---- the other services: the same outcome, its answer as a word
+
+pub record WrittenLeft : Type 0 where
+  pub word : ℕ
+  pub text : List ℕ
+
+abbrev pub writtenLeft : Written → WrittenLeft
+writtenLeft w = record { word = word (w .answer); text = w .text }
+
+pub record PutLeft : Type 0 where
+  pub word : ℕ
+  pub batch : List ℕ
+
+abbrev pub putLeft : Put → PutLeft
+putLeft w = record { word = bare (w .answer); batch = w .batch }
+
+pub record CommitLeft : Type 0 where
+  pub word : ℕ
+  pub state : State
+  pub verdicts : List ℕ
+
+abbrev pub commitLeft : Commits → CommitLeft
+commitLeft c = record { word = word (c .answer); state = c .state; verdicts = c .verdicts }
+
+pub record PlanLeft : Type 0 where
+  pub word : ℕ
+  pub verdicts : List ℕ
+  pub order : List ℕ
+  pub out : List ℕ
+
+abbrev pub planLeft : Plans → PlanLeft
+planLeft p = record { word = word (p .answer); verdicts = p .verdicts; order = p .order; out = p .out }

@@ -1,0 +1,155 @@
+// The services for other languages: a static library. Each promise is that of the service below it.
+use ledger::Committed;
+use ledger::PageCheck;
+use ledger::PageWrite;
+use ledger::Transaction;
+use planner::Planned;
+use refusals::Refusal;
+use tonnage::Reading;
+use tonnage::Writing;
+ghost use mathlib.Core.Path.{_≡_};
+ghost use Rattle.tonnage.specs.Services.{writeText};
+ghost use Rattle.ledger.specs.Services.{writePage};
+ghost use Rattle.ledger.specs.State.{stateOf};
+ghost use Rattle.ledger.specs.Commit.{commitBatch};
+ghost use Rattle.planner.specs.Plan.{planBatch};
+ghost use Rattle.node.specs.Word.{upper};
+ghost use Rattle.node.specs.Lent.{lentTx, pageLeft, textLeft, writtenLeft, putLeft, commitLeft, planLeft};
+
+mod arrays;
+
+// What a refusal's number counts in a word: the place has the 32 bits below.
+const NUMBER: u64 = 4294967296;
+
+// A refusal as a word: the number above, the place below.
+fn refused(r: Refusal) -> u64
+    ensures { λ w. ⌜ w ≡ upper (r .number) (r .place) ⌝ }
+{
+    (r.number as u64) * NUMBER + r.place as u64
+}
+
+// Plans a batch: verdicts, order and out are filled as document 01 says.
+#[no_mangle]
+pub extern "C" fn nevolisca_plan(
+    batch: &[u8],
+    blocks: &[u32],
+    places: &[u16],
+    values: &[i64],
+    n: u32,
+    verdicts: &mut [u8],
+    order: &mut [u8],
+    out: &mut [u8],
+) -> u64
+    ensures { λ r. ⌜ record { word = r; verdicts = now (verdicts .exit); order = now (order .exit); out = now (out .exit) } ≡ planLeft (planBatch (now (batch .entry)) (stateOf (now (blocks .entry)) (now (places .entry)) (now (values .entry))) n (now (verdicts .entry)) (now (order .entry)) (now (out .entry))) ⌝ }
+{
+    match planner::plan::plan_batch(batch, blocks, places, values, n, verdicts, order, out) {
+        Planned::Kept { pages } => pages as u64,
+        Planned::Unplanned { refusal } => refused(refusal),
+    }
+}
+
+// Commits a batch: the state and the verdicts are filled.
+#[no_mangle]
+pub extern "C" fn nevolisca_commit(
+    batch: &[u8],
+    blocks: &mut [u32],
+    places: &mut [u16],
+    values: &mut [i64],
+    n: u32,
+    verdicts: &mut [u8],
+) -> u64
+    ensures { λ r. ⌜ record { word = r; state = stateOf (now (blocks .exit)) (now (places .exit)) (now (values .exit)); verdicts = now (verdicts .exit) } ≡ commitLeft (commitBatch (now (batch .entry)) (stateOf (now (blocks .entry)) (now (places .entry)) (now (values .entry))) n (now (verdicts .entry))) ⌝ }
+{
+    match ledger::commit::commit_batch(batch, blocks, places, values, n, verdicts) {
+        Committed::Passed { pages } => pages as u64,
+        Committed::Uncommitted { refusal } => refused(refusal),
+    }
+}
+
+// Reads a tonnage text.
+#[no_mangle]
+pub extern "C" fn nevolisca_read_tonnage(text: &[u8], kilograms: &mut i64) -> u64
+    ensures { λ r. ⌜ record { word = r; kilograms = now (kilograms .exit) } ≡ textLeft (now (text .entry)) (now (kilograms .entry)) ⌝ }
+{
+    match tonnage::text::read_tonnage(text) {
+        Reading::Kilograms { value } => {
+            *kilograms = value;
+            0
+        }
+        Reading::Unread { refusal } => refused(refusal),
+    }
+}
+
+// Writes a tonnage text to the front of a buffer.
+#[no_mangle]
+pub extern "C" fn nevolisca_write_tonnage(text: &mut [u8], kilograms: i64) -> u64
+    ensures { λ r. ⌜ record { word = r; text = now (text .exit) } ≡ writtenLeft (writeText (now (text .entry)) kilograms) ⌝ }
+{
+    match tonnage::text::write_tonnage(text, kilograms) {
+        Writing::Length { length } => length as u64,
+        Writing::Unwritten { refusal } => refused(refusal),
+    }
+}
+
+// Reads a page into a transaction's arrays.
+#[no_mangle]
+pub extern "C" fn nevolisca_read_page(
+    page: &[u8],
+    head: &mut [u32; 3],
+    read_keys: &mut [u16; 32],
+    read_places: &mut [u16; 32],
+    read_blocks: &mut [u32; 32],
+    write_keys: &mut [u16; 32],
+    write_kinds: &mut [u16; 32],
+    write_values: &mut [i64; 32],
+) -> u64
+    ensures { λ r. ⌜ record { word = r; arrays = record { head = now (head .exit); readKeys = now («read_keys» .exit); readPlaces = now («read_places» .exit); readBlocks = now («read_blocks» .exit); writeKeys = now («write_keys» .exit); writeKinds = now («write_kinds» .exit); writeValues = now («write_values» .exit) } } ≡ pageLeft (now (page .entry)) (record { head = now (head .entry); readKeys = now («read_keys» .entry); readPlaces = now («read_places» .entry); readBlocks = now («read_blocks» .entry); writeKeys = now («write_keys» .entry); writeKinds = now («write_kinds» .entry); writeValues = now («write_values» .entry) }) ⌝ }
+{
+    let found = ledger::page::read::read_page(page);
+    let check = found.check;
+    let t = found.transaction;
+    match check {
+        PageCheck::Good {
+            reads: _,
+            writes: _,
+        } => {
+            *head = [t.r as u32, t.w as u32, t.ticket];
+            let reads = t.reads;
+            arrays::fill_reads(reads, read_keys, read_places, read_blocks);
+            let writes = t.writes;
+            arrays::fill_writes(writes, write_keys, write_kinds, write_values);
+            0
+        }
+        PageCheck::Bad { number } => refused(Refusal { number, place: 0 }),
+    }
+}
+
+// Writes a transaction's arrays as the page at an index of a batch.
+#[no_mangle]
+pub extern "C" fn nevolisca_write_page(
+    batch: &mut [u8],
+    index: usize,
+    head: &[u32; 3],
+    read_keys: &[u16; 32],
+    read_places: &[u16; 32],
+    read_blocks: &[u32; 32],
+    write_keys: &[u16; 32],
+    write_kinds: &[u16; 32],
+    write_values: &[i64; 32],
+) -> u64
+    ensures { λ r. ⌜ record { word = r; batch = now (batch .exit) } ≡ putLeft (writePage (now (batch .entry)) index (lentTx (record { head = now (head .entry); readKeys = now («read_keys» .entry); readPlaces = now («read_places» .entry); readBlocks = now («read_blocks» .entry); writeKeys = now («write_keys» .entry); writeKinds = now («write_kinds» .entry); writeValues = now («write_values» .entry) }))) ⌝ }
+{
+    let reads = arrays::reads_of(read_keys, read_places, read_blocks);
+    let writes = arrays::writes_of(write_keys, write_kinds, write_values);
+    let t = Transaction {
+        ticket: head[2],
+        r: arrays::count(head[0]),
+        w: arrays::count(head[1]),
+        reads,
+        writes,
+    };
+    match ledger::page::write::write_page(batch, index, t) {
+        PageWrite::Written => 0,
+        PageWrite::Unwritten { refusal } => refused(refusal),
+    }
+}

@@ -1,6 +1,11 @@
+pub mod Demand3
 pub mod Empty
+pub mod OutBatch
 pub mod Outcomes
 pub mod Pages
+pub mod Planning
+pub mod Refusals
+pub mod Running
 pub mod Table
 pub mod Texts
 pub mod Unique

@@ -1,4 +1,5 @@
 pub mod Ascii
 pub mod Cases
+pub mod Rules
 pub mod Serial
 pub mod Third

@@ -2,8 +2,8 @@
 use mathlib.Core.Path.{_≡_, refl, sym, ap, _∙_}
 use mathlib.Core.Bool.{Bool, true, false, not}
 use mathlib.Core.List.{List, [], _∷_, _++_}
-use Prim.Native.Nat.{ℕ, suc, _+_, _*_, _-_, _≤_, _<_}
-use native.Mathlib.Nat.{add-zero, add-suc, suc-add, zero-add, add-sub-cancel-left}
+use Prim.Native.Nat.{ℕ, suc, _+_, _≤_, _<_}
+use native.Mathlib.Nat.{add-zero, add-suc, suc-add, zero-add}
 use native.Mathlib.Numerals.{add-one}
 use native.Mathlib.Omega.{arith}
 use lib.ListN.{length, set, take, drop, length-append, length-drop, length-set}
@@ -24,9 +24,9 @@ use Rattle.ledger.specs.declared.Committed.the-variants.{Passed}
 use Rattle.ledger.specs.Bytes.{tab}
 use Rattle.ledger.specs.Version.{at}
 use Rattle.ledger.specs.Tx.{Tx, noRead, readOf, writeOf, noWrite}
-use Rattle.ledger.specs.Page.{pageAt}
+use Rattle.ledger.specs.Page.{pageAt, pageTx}
 use Rattle.ledger.specs.State.{State, Entry, Level, gone, keys, store}
-use Rattle.ledger.specs.Gate.{pages, txAt, txs, gateFault, gate, Ready, Batch}
+use Rattle.ledger.specs.Gate.{pages, txAt, txs, gateFault, gate, Batch}
 use Rattle.ledger.specs.Commit.{names, passes, left, write, afterPage, verdict, commit, verdicts, passed, commits, commitBatch, committed}
 use Rattle.ledger.proofs.OnPage.{length-tab}
 use Rattle.ledger.proofs.Gated.{judged-gives, judged-refuses, Through, gate-open}
@@ -168,13 +168,6 @@ module _ (n i : ℕ) (s : State) (x : Tx) where
 
 -- ---- the pages of a batch in turn
 
--- the part of a batch that is lent as page i
-pub lent : (batch : List ℕ) (i : ℕ) → take (i * 512 + 512 - i * 512) (drop (i * 512) batch) ≡ pageAt batch i
-lent batch i = rw (add-sub-cancel-left (i * 512) 512)
-
-pub lent-ready : (batch : List ℕ) (i k l : ℕ) → l ≡ k → Ready k (pageAt batch i) → Ready l (take (i * 512 + 512 - i * 512) (drop (i * 512) batch))
-lent-ready batch i k l e r = rw (lent batch i, e) r
-
 module _ (batch : List ℕ) (s : State) (n : ℕ) (vs : List ℕ) where
   abbrev pub first : ℕ → List Tx
   first i = tab i (txAt batch)
@@ -214,16 +207,17 @@ module _ (batch : List ℕ) (s : State) (n : ℕ) (vs : List ℕ) where
         rw (c .verdicts-are, drop-cons vs i 0 h, set-at (verdicts n 0 s (first i)) _ _ v i (many i), add-one)
         (sym (append-snoc (verdicts n 0 s (first i)) v (drop (suc i) vs)))
 
-    pub committing-turns : (b : Bool) (more : ℕ) (u : State) (new : List ℕ) → i < length vs
-        → b ≡ passes t (txAt batch i)
-        → u ≡ afterPage n i t (txAt batch i)
+    -- p is page i, b says whether it passes
+    pub committing-turns : (p : List ℕ) (b : Bool) (more : ℕ) (u : State) (new : List ℕ) → i < length vs → p ≡ pageAt batch i
+        → b ≡ passes t (pageTx p)
+        → u ≡ afterPage n i t (pageTx p)
         → more ≡ count + pick b 1 0
         → new ≡ set ws i (pick b 0 3)
         → Committing (i + 1) more u new
-    committing-turns b more u new h e f g q =
-        let v : _≡_ {A = ℕ} (pick b 0 3) (verdict (commit n 0 s (first i)) (txAt batch i)) = ap (λ x. pick x 0 3) e ∙ ap (λ r. verdict r (txAt batch i)) (c .state-is) in
+    committing-turns p b more u new h is e f g q =
+        let v : _≡_ {A = ℕ} (pick b 0 3) (verdict (commit n 0 s (first i)) (txAt batch i)) = ap (λ x. pick x 0 3) (rw is at e) ∙ ap (λ r. verdict r (txAt batch i)) (c .state-is) in
         record {
-          state-is = f ∙ ap (λ r. afterPage n i r (txAt batch i)) (c .state-is) ∙ sym (next-commit i);
+          state-is = rw is at f ∙ ap (λ r. afterPage n i r (txAt batch i)) (c .state-is) ∙ sym (next-commit i);
           verdicts-are = q ∙ stored (pick b 0 3) h ∙ rw (next-verdicts i, ← v);
           count-is = g ∙ rw (next-verdicts i, ← v, passed-last, ← c .count-is) (ap (λ x. count + x) (go b));
         }

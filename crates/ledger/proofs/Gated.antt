@@ -2,9 +2,10 @@
 use mathlib.Core.Path.{_≡_, refl, sym, ap, _∙_}
 use mathlib.Core.Bool.{Bool, true, false, not, _||_, _&&_}
 use mathlib.Core.List.{List}
-use Prim.Native.Nat.{ℕ, suc, _*_, _%_, _≤_, _<_}
+use Prim.Native.Nat.{ℕ, suc, _+_, _-_, _*_, _%_, _≤_, _<_}
+use native.Mathlib.Nat.{add-sub-cancel-left}
 use native.Mathlib.Omega.{arith}
-use lib.ListN.{length}
+use lib.ListN.{length, take, drop}
 use lib.Dec.{eqb, ltb, leb, eqb·suc-zero}
 use borrow.Author.Tests.{ltb-true, ltb-false, leb-true, eqb-true, eqb-false, not-false, lt-ltb, le-ltb, eq-eqb, ne-eqb}
 use Rattle.lists.specs.Choice.{pick}
@@ -79,6 +80,15 @@ module _ (t : ℕ → Bool) (k n i : ℕ) (found : i ≡ firstIn t 0 n) where
 -- a test that holds at no index
 pub test-clear : (t : ℕ → Bool) (k n : ℕ) → lowest (λ j. pick (t j) (suc k) 0) n ≡ clear → (i : ℕ) → i < n → t i ≡ false
 test-clear t k n e i h = fault-none k (t i) (lowest-clear (λ j. pick (t j) (suc k) 0) n e i h)
+
+-- ---- pages of a batch
+
+-- the part of a batch that is lent as page i
+pub lent : (batch : List ℕ) (i : ℕ) → take (i * 512 + 512 - i * 512) (drop (i * 512) batch) ≡ pageAt batch i
+lent batch i = rw (add-sub-cancel-left (i * 512) 512)
+
+pub lent-ready : (batch : List ℕ) (i k l : ℕ) → l ≡ k → Ready k (pageAt batch i) → Ready l (take (i * 512 + 512 - i * 512) (drop (i * 512) batch))
+lent-ready batch i k l e r = rw (lent batch i, e) r
 
 -- ---- what the check of a page says
 

@@ -7,7 +7,7 @@ use lib.Dec.{eqb, ltb}
 use Rattle.lists.specs.Choice.{pick}
 use Rattle.lists.specs.Members.{any, those, upto}
 use Rattle.refusals.specs.Outcome.{Outcome, gives, refuses}
-use Rattle.refusals.specs.Fault.{Fault, clear, fault}
+use Rattle.refusals.specs.Fault.{clear, fault}
 use Rattle.orders.specs.Admission.{admit}
 use Rattle.orders.specs.Arrange.{byTicket, schedule}
 use Rattle.ledger.specs.Bytes.{tab}

@@ -8,5 +8,8 @@ pub enum Planned {
 }
 
 mod admission;
+mod demand;
+mod fill;
+pub mod plan;
 mod ranks;
 mod schedule;

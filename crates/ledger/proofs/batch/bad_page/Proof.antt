@@ -11,8 +11,7 @@ use Rattle.refusals.specs.Outcome.{refuses}
 use Rattle.refusals.specs.Fault.{judged}
 use Rattle.ledger.specs.Page.{pageFault, pageAt}
 use Rattle.ledger.specs.Services.{checked, checkPage}
-use Rattle.ledger.proofs.Gated.{lowest-found, lowest-none, check-good, check-bad}
-use Rattle.ledger.proofs.Commits.{lent}
+use Rattle.ledger.proofs.Gated.{lent, lowest-found, lowest-none, check-good, check-bad}
 use borrow.Author.Needs.{needs}
 use native.Mathlib.Omega.{arith}
 use Rattle.ledger.proofs.batch.bad_page.Statement.{statement}

@@ -6,9 +6,9 @@ use Rattle.lists.proofs.Loops.{ends}
 use Rattle.ledger.specs.Page.{pageTx}
 use Rattle.ledger.specs.Gate.{txAt}
 use Rattle.ledger.proofs.Pages.{good-counted}
-use Rattle.ledger.proofs.Commits.{lent}
 use Rattle.ledger.proofs.Tickets.{Ticketed, ticketed-begins, ticketed-found, ticketed-passes}
 use borrow.Author.Needs.{needs}
+use Rattle.ledger.proofs.Gated.{lent}
 use Rattle.ledger.proofs.batch.first_again.Statement.{statement}
 use Rattle.ledger.proofs.batch.first_again.Tie as tie
 

@@ -7,7 +7,7 @@ use denote.Ref.{now}
 use Rattle.lists.proofs.Loops.{Unfound, begins, found, passes, ends}
 use Rattle.ledger.specs.Page.{pageTx}
 use Rattle.ledger.specs.Gate.{txAt, beyond}
-use Rattle.ledger.proofs.Commits.{lent}
+use Rattle.ledger.proofs.Gated.{lent}
 use Rattle.ledger.proofs.batch.first_beyond.Statement.{statement}
 use Rattle.ledger.proofs.batch.first_beyond.Tie as tie
 

@@ -5,7 +5,7 @@ use native.Mathlib.Omega.{arith}
 use borrow.Author.Needs.{needs}
 use denote.Ref.{now}
 use Rattle.refusals.specs.Fault.{clear}
-use Rattle.ledger.specs.State.{State, stateOf, wrongLengths}
+use Rattle.ledger.specs.State.{State, stateOf, entry, wrongEntry, wrongLengths}
 use Rattle.ledger.proofs.Gated.{test-found, test-none, wrongBytes, too-long, too-odd, not-wrong, wrongEntries, gate-eleven, gate-twelve, gate-thirteen, gate-fourteen, gate-pages, Sized, sized}
 use Rattle.ledger.proofs.batch.gate.Statement.{statement}
 use Rattle.ledger.proofs.batch.gate.Tie as tie
@@ -73,7 +73,7 @@ returns-4 c =
     let e = f .before .before .before in
     let s = e .before .before .before .before .before in
     c .shut4 .ensures
-    ∙ gate-thirteen (s .args .short) (now (s .args .batch)) (lent s) (s .args .n) (f .first-wrong .result) (no-eleven e) (no-twelve (f .before)) (test-found _ 12 _ _ (f .first-wrong .ensures) (c .before .if4 .taken))
+    ∙ gate-thirteen (s .args .short) (now (s .args .batch)) (lent s) (s .args .n) (f .first-wrong .result) (no-eleven e) (no-twelve (f .before)) (test-found (λ k. wrongEntry (s .args .n) (entry (lent s) k)) 12 _ _ (f .first-wrong .ensures) (c .before .if4 .taken))
 
 shut-requires-5 : tie.Need-shut-requires-5
 shut-requires-5 c κs = search needs

@@ -2,6 +2,7 @@
 use mathlib.Core.Path.{sym, _∙_}
 use denote.Ref.{now}
 use borrow.Author.Tests.{not-true, not-false}
+use Rattle.ledger.specs.State.{stateOf}
 use Rattle.ledger.proofs.Commits.{page-fails, page-passes}
 use borrow.Author.Needs.{needs}
 use Rattle.ledger.proofs.commit.commit_page.Statement.{statement}
@@ -44,7 +45,8 @@ returns-2 c =
     let a = p .before .before .before .before .before .before .args in
     let q = not-false (p .passes .result) (e .if1 .left) in
     let f = p .passes .ensures (now (a .values)) in
-    (sym q ∙ f, page-passes (a .n) (a .i) _ _ _ (sym f ∙ q) (w .apply .ensures))
+    let l = w .apply .last .1 in
+    (sym q ∙ f, page-passes (a .n) (a .i) _ _ (stateOf (l .0) (l .1 .0) (l .1 .1 .0)) (sym f ∙ q) (w .apply .ensures))
 
 pub commit-page-spec : {M : Type 1} → statement M
 commit-page-spec =

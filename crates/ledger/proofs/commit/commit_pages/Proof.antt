@@ -1,5 +1,5 @@
 -- `commit_pages`: the pages in turn.
-use mathlib.Core.Path.{_≡_, sym, ap, _∙_}
+use mathlib.Core.Path.{_≡_, sym, _∙_}
 use mathlib.Core.Bool.{Bool, true, false}
 use mathlib.Core.Logic.{⊎-elim}
 use mathlib.Core.List.{List}
@@ -10,10 +10,9 @@ use borrow.Author.Needs.{needs}
 use denote.Ref.{now}
 use lib.ListN.{length, set}
 use Rattle.lists.specs.Choice.{pick}
-use Rattle.ledger.specs.Page.{pageTx}
 use Rattle.ledger.specs.State.{State, stateOf}
-use Rattle.ledger.specs.Commit.{passes, afterPage}
-use Rattle.ledger.proofs.Commits.{Kept, kept-level, lent, lent-ready, Committing, committing-begins, committing-kept, committing-long, committing-turns, committing-ends}
+use Rattle.ledger.proofs.Gated.{lent, lent-ready}
+use Rattle.ledger.proofs.Commits.{Kept, kept-level, Committing, committing-begins, committing-kept, committing-long, committing-turns, committing-ends}
 use Rattle.ledger.proofs.commit.commit_pages.Statement.{statement}
 use Rattle.ledger.proofs.commit.commit_pages.Tie as tie
 
@@ -64,11 +63,12 @@ next v b count verdicts e f g =
     let p = v .before .before .before .before .before in
     let t = turn v in
     let s = start t in
-    let l = lent (now (s .args .batch)) (t .before .loop .i) in
-    committing-turns _ _ _ _ _ _ _ _ (t .before .loop .inv .2) b count _ verdicts
+    let l = p .commit-page .last .1 in
+    committing-turns _ _ _ _ _ _ _ _ (t .before .loop .inv .2) _ b count (stateOf (l .0) (l .1 .0) (l .1 .1 .0)) verdicts
     (omega (arith, t .loop-test .taken, s .pre .1 .1))
-    (sym e ∙ p .commit-page .ensures .0 ∙ ap (λ x. passes (here t) (pageTx x)) l)
-    (p .commit-page .ensures .1 ∙ ap (λ x. afterPage (s .args .n) (t .before .loop .i) (here t) (pageTx x)) l)
+    (lent (now (s .args .batch)) (t .before .loop .i))
+    (sym e ∙ p .commit-page .ensures .0)
+    (p .commit-page .ensures .1)
     f
     g
 

@@ -1,0 +1,149 @@
+-- Pages of a batch gathered into a batch of their own: its bytes, its pages, its transactions, and that the gate lets it through. Assumes nothing.
+use Prim.Native.Nat.{ℕ, zero, suc, _+_, _*_, _≤_, _<_}
+use native.Mathlib.Decide.{decLt}
+use native.Mathlib.Omega.{arith}
+use mathlib.Core.Bool.{Bool, false, not}
+use mathlib.Core.List.{List, [], _∷_, _++_, map, map-append, List·Memᴰ·head, List·Memᴰ·tail}
+use mathlib.Core.Path.{_≡_, refl, sym, ap, _∙_}
+use lib.ListN.{length, getD, take, drop, length-append, length-take, length-drop}
+use lib.Seq.{take-at, drop-append-add}
+use lib.Dec.{T, eqb, ltb}
+use borrow.Author.Tests.{le-ltb, ne-eqb}
+use Rattle.lists.specs.Choice.{pick}
+use Rattle.lists.specs.Members.{_∈_, distinct}
+use Rattle.lists.proofs.Tests.{differ}
+use Rattle.lists.proofs.Membership.{getD-in, apart, rest}
+use Rattle.lists.proofs.Searches.{none-at}
+use Rattle.refusals.specs.Fault.{clear, at}
+use Rattle.ledger.specs.Bytes.{tab}
+use Rattle.ledger.specs.Page.{pageTx, pageFault, pageAt}
+use Rattle.ledger.specs.State.{State, keys, wrongLengths}
+use Rattle.ledger.specs.Gate.{pages, txAt, txs, lowest, again, beyond, pagesFault, gateFault}
+use Rattle.ledger.proofs.OnPage.{tab-same, tab-list}
+use Rattle.ledger.proofs.Gated.{else-none, at-none, wrongBytes, wrongEntries, not-wrong, Through}
+use Rattle.planner.specs.Plan.{gathered}
+
+-- ---- lists
+
+-- a table of a list's elements is the list relabelled
+map-tab : {X Y : Type 0} (f : X → Y) (g : ℕ → X) (n : ℕ) → map f (tab n g) ≡ tab n (λ i. f (g i))
+unfolding tab
+map-tab f g zero = refl
+map-tab f g (suc n) = map-append f (tab n g) (g n ∷ []) ∙ ap (λ l. l ++ (f (g n) ∷ [])) (map-tab f g n)
+
+tab-map : {X : Type 0} (f : ℕ → X) (is : List ℕ) → tab (length is) (λ j. f (getD is j 0)) ≡ map f is
+tab-map f is = sym (map-tab f (λ j. getD is j 0) (length is)) ∙ ap (map f) (tab-list is 0)
+
+-- two places of a list without repetition hold two numbers
+distinct-at : (is : List ℕ) → T (distinct is) → (i j : ℕ) → j < i → i < length is → getD is j 0 ≡ getD is i 0 → ⊥
+distinct-at [] d i j l h e = omega arith
+distinct-at (x ∷ is) d zero j l h e = omega arith
+distinct-at (x ∷ is) d (suc i) zero l h e = differ x (getD is i 0) (apart x is d (getD-in is i 0 (omega arith))) e
+distinct-at (x ∷ is) d (suc i) (suc j) l h e = distinct-at is (rest x is d) i j (omega arith) (omega arith) e
+
+-- ---- the gate
+
+-- where no index has a fault, there is none
+lowest-of : (number : ℕ → ℕ) (n : ℕ) → ((i : ℕ) → i < n → number i ≡ 0) → lowest number n ≡ clear
+unfolding lowest
+lowest-of number n h = rw (none-at (λ j. not (eqb (number j) 0)) n (λ i l. rw (h i l)))
+
+-- what the gate says of the state alone
+state-good : (short : Bool) (batch : List ℕ) (s : State) (n : ℕ) → gateFault short batch s n ≡ clear → (wrongLengths s ≡ false) × (wrongEntries s n ≡ clear)
+unfolding gateFault
+state-good short batch s n e =
+    let a = else-none (at 11 (wrongBytes batch)) _ e in
+    let b = else-none (at 12 (wrongLengths s)) _ (a .1) in
+    (at-none 12 (wrongLengths s) (b .0), else-none (wrongEntries s n) _ (b .1) .0)
+
+gate-clear :
+    (short : Bool) (batch : List ℕ) (s : State) (n : ℕ) →
+    wrongBytes batch ≡ false → wrongLengths s ≡ false → wrongEntries s n ≡ clear → short ≡ false → pagesFault batch (keys s) ≡ clear →
+    gateFault short batch s n ≡ clear
+unfolding gateFault
+gate-clear short batch s n e f g h p = rw (e, f, g, h, p)
+
+-- ---- pages gathered
+
+module _ (batch : List ℕ) (m : ℕ) (whole : length batch ≡ m * 512) where
+  page-long : (i : ℕ) → i < m → length (pageAt batch i) ≡ 512
+  page-long i h = simp (length-take, length-drop) (omega arith)
+
+  pub gathered-long : (is : List ℕ) → ((i : ℕ) → i ∈ is → i < m) → length (gathered batch is) ≡ length is * 512
+  unfolding gathered
+  gathered-long [] f = refl
+  gathered-long (i ∷ is) f =
+      let a = page-long i (f i (List·Memᴰ·head refl)) in
+      let b = gathered-long is (λ j k. f j (List·Memᴰ·tail k)) in
+      length-append (pageAt batch i) (gathered batch is) ∙ omega arith
+
+  gathered-page : (is : List ℕ) → ((i : ℕ) → i ∈ is → i < m) → (j : ℕ) → j < length is → pageAt (gathered batch is) j ≡ pageAt batch (getD is j 0)
+  unfolding gathered
+  gathered-page [] f j h = absurd (omega arith)
+  gathered-page (i ∷ is) f zero h = take-at (pageAt batch i) (gathered batch is) 512 (page-long i (f i (List·Memᴰ·head refl)))
+  gathered-page (i ∷ is) f (suc j) h =
+      let e : suc j * 512 ≡ length (pageAt batch i) + j * 512 = omega (arith, page-long i (f i (List·Memᴰ·head refl))) in
+      ap (λ k. take 512 (drop k (pageAt batch i ++ gathered batch is))) e
+      ∙ ap (take 512) (drop-append-add (pageAt batch i) (gathered batch is) (j * 512))
+      ∙ gathered-page is (λ x k. f x (List·Memᴰ·tail k)) j (omega arith)
+
+  pub gathered-pages : (is : List ℕ) → ((i : ℕ) → i ∈ is → i < m) → pages (gathered batch is) ≡ length is
+  gathered-pages is f = let e = gathered-long is f in omega arith
+
+  pub gathered-txs : (is : List ℕ) → ((i : ℕ) → i ∈ is → i < m) → txs (gathered batch is) ≡ map (txAt batch) is
+  unfolding txs
+  gathered-txs is f =
+      ap (λ k. tab k (txAt (gathered batch is))) (gathered-pages is f)
+      ∙ tab-same (txAt (gathered batch is)) (λ j. txAt batch (getD is j 0)) (length is) (λ j h. ap pageTx (gathered-page is f j h))
+      ∙ tab-map (txAt batch) is
+
+-- ---- pages of a batch that the gate let through
+
+module _ (short : Bool) (batch : List ℕ) (s : State) (n : ℕ) (c : gateFault short batch s n ≡ clear) (t : Through short batch s n)
+    (is : List ℕ) (once : T (distinct is)) (inside : (i : ℕ) → i ∈ is → i < pages batch) where
+  page-is : (j : ℕ) → j < length is → pageAt (gathered batch is) j ≡ pageAt batch (getD is j 0)
+  page-is = gathered-page batch (pages batch) (t .ready .whole) is inside
+
+  inside-at : (j : ℕ) → j < length is → getD is j 0 < pages batch
+  inside-at j h = inside (getD is j 0) (getD-in is j 0 h)
+
+  -- no ticket is there twice
+  no-ticket : (x y : ℕ) → x < pages batch → y < pages batch → (x ≡ y → ⊥) → txAt batch x .ticket ≡ txAt batch y .ticket → ⊥
+  no-ticket x y h l f e =
+      elim (decLt x y) [
+        | yes a ↦ t .differ y x a l e
+        | no a ↦ elim (decLt y x) [ yes b ↦ t .differ x y b h (sym e) | no b ↦ f (omega arith) ]
+      ]
+
+  none-again : (i : ℕ) → i < length is → again (gathered batch is) i ≡ false
+  none-again i h =
+      none-at (λ j. eqb (txAt (gathered batch is) j .ticket) (txAt (gathered batch is) i .ticket)) i
+      (λ j l. ne-eqb (txAt (gathered batch is) j .ticket) (txAt (gathered batch is) i .ticket)
+      (λ e. no-ticket (getD is j 0) (getD is i 0) (inside-at j (omega arith)) (inside-at i h) (distinct-at is once i j l h)
+      (ap (λ p. pageTx p .ticket) (sym (page-is j (omega arith))) ∙ e ∙ ap (λ p. pageTx p .ticket) (page-is i h))))
+
+  pages-clear : pagesFault (gathered batch is) (keys s) ≡ clear
+  unfolding pagesFault
+  pages-clear =
+      let m = gathered-pages batch (pages batch) (t .ready .whole) is inside in
+      rw (
+        lowest-of (λ i. pageFault (pageAt (gathered batch is) i)) (pages (gathered batch is))
+            (λ i h. ap pageFault (page-is i (rw m at h)) ∙ t .ready .each (getD is i 0) (inside-at i (rw m at h)) .good),
+        lowest-of (λ i. pick (again (gathered batch is) i) 15 0) (pages (gathered batch is)) (λ i h. ap (λ b. pick b 15 0) (none-again i (rw m at h))),
+        lowest-of (λ i. pick (beyond (keys s) (txAt (gathered batch is) i)) 16 0) (pages (gathered batch is))
+            (λ i h. ap (λ p. pick (beyond (keys s) (pageTx p)) 16 0) (page-is i (rw m at h))
+            ∙ ap (λ b. pick b 16 0) (t .ready .each (getD is i 0) (inside-at i (rw m at h)) .within)),
+      )
+
+  -- the gate lets them through, with verdicts enough for 14
+  pub gathered-open : (vs : List ℕ) → length is ≤ 64 → length is ≤ length vs → gateFault (ltb (length vs) (pages (gathered batch is))) (gathered batch is) s n ≡ clear
+  gathered-open vs few long =
+      let l = gathered-long batch (pages batch) (t .ready .whole) is inside in
+      let m = gathered-pages batch (pages batch) (t .ready .whole) is inside in
+      let g = state-good short batch s n c in
+      gate-clear (ltb (length vs) (pages (gathered batch is))) (gathered batch is) s n
+      (not-wrong (gathered batch is) (omega arith) (omega arith))
+      (g .0)
+      (g .1)
+      (le-ltb (length vs) (pages (gathered batch is)) (omega arith))
+      pages-clear

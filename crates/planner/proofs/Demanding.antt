@@ -19,7 +19,7 @@ use Rattle.ledger.specs.declared.Write.{Write}
 use Rattle.ledger.specs.Tx.{Tx, noRead, noWrite, readOf, writeOf}
 use Rattle.ledger.specs.Page.{pageAt, pageTx, pageFault}
 use Rattle.ledger.specs.Gate.{txAt}
-use Rattle.ledger.proofs.Commits.{lent}
+use Rattle.ledger.proofs.Gated.{lent}
 use Rattle.ledger.proofs.Rising.{read-keys, write-keys}
 use Rattle.planner.specs.Ranks.{demands, nth, Ranked}
 use Rattle.planner.specs.Plan.{reader, before}

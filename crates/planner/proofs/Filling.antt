@@ -14,7 +14,7 @@ use Rattle.lists.proofs.Tests.{clash, same-test}
 use Rattle.ledger.specs.Bytes.{tab}
 use Rattle.ledger.specs.Page.{pageAt}
 use Rattle.ledger.proofs.OnPage.{length-tab}
-use Rattle.ledger.proofs.Commits.{lent}
+use Rattle.ledger.proofs.Gated.{lent}
 use Rattle.ledger.proofs.Placed.{part-back}
 use Rattle.planner.specs.Ranks.{nth}
 use Rattle.planner.specs.Plan.{gathered}

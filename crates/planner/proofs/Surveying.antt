@@ -13,7 +13,7 @@ use Rattle.sets.proofs.Laws.{none}
 use Rattle.ledger.specs.Page.{pageAt, pageTx, pageFault, Counted}
 use Rattle.ledger.specs.Gate.{txAt}
 use Rattle.ledger.proofs.Pages.{good-counted}
-use Rattle.ledger.proofs.Commits.{lent}
+use Rattle.ledger.proofs.Gated.{lent}
 use Rattle.planner.specs.Ranks.{nth}
 use Rattle.planner.proofs.Filling.{or-false}
 use Rattle.planner.proofs.Demanding.{below-next}

@@ -4,14 +4,14 @@ use crate::Version;
 use crate::Write;
 use crate::bytes;
 ghost use mathlib.Core.Path.{_≡_};
-ghost use Prim.Native.Nat.{_<_};
+ghost use Prim.Native.Nat.{_≤_, _<_};
 ghost use lib.ListN.{length};
 ghost use Rattle.ledger.specs.Tx.{readOf, writeOf};
 ghost use Rattle.ledger.specs.Page.{pageTx, Counted};
 
 // The ticket.
 pub fn ticket(page: &[u8]) -> u32
-    requires { ⌜ Counted (now page) ⌝ }
+    requires { ⌜ 8 ≤ length (now page) ⌝ }
     ensures { λ x. ⌜ x ≡ pageTx (now (page .entry)) .ticket ⌝ }
 {
     bytes::le4(page, 4)

@@ -3,7 +3,8 @@ use mathlib.Core.Path.{_≡_, refl, ap, _∙_}
 use Prim.Native.Nat.{_-_}
 use denote.Ref.{now}
 use Rattle.lists.proofs.Loops.{ends}
-use Rattle.ledger.specs.Page.{pageTx}
+use native.Mathlib.Omega.{arith}
+use Rattle.ledger.specs.Page.{pageTx, pageAt}
 use Rattle.ledger.specs.Gate.{txAt}
 use Rattle.ledger.proofs.Pages.{good-counted}
 use Rattle.ledger.proofs.Tickets.{Ticketed, ticketed-begins, ticketed-found, ticketed-passes}
@@ -47,7 +48,8 @@ ticket-requires : tie.Need-ticket-requires Inv-loop μ-loop
 ticket-requires c κs =
     let h = c .before .before in
     let s = h .before .before in
-    rw (lent (now (s .args .batch)) (h .loop .i)) (good-counted _ (s .pre .1 (h .loop .i) (c .before .loop-test .taken)))
+    let long = good-counted (pageAt (now (s .args .batch)) (h .loop .i)) (s .pre .1 (h .loop .i) (c .before .loop-test .taken)) .whole in
+    rw (lent (now (s .args .batch)) (h .loop .i)) (omega (arith, long))
 
 find-requires : tie.Need-find-requires Inv-loop μ-loop
 find-requires c κs = search needs

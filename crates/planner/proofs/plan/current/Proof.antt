@@ -11,7 +11,7 @@ use Rattle.ledger.specs.Page.{pageTx}
 use Rattle.ledger.specs.State.{stateOf}
 use Rattle.ledger.specs.Gate.{txAt}
 use Rattle.ledger.specs.Commit.{passes}
-use Rattle.ledger.proofs.Commits.{lent, lent-ready}
+use Rattle.ledger.proofs.Gated.{lent, lent-ready}
 use Rattle.planner.specs.Plan.{current}
 use Rattle.planner.proofs.Surveying.{Passed, passed-none, passed-more, passed-less}
 use Rattle.planner.proofs.plan.current.Statement.{statement}

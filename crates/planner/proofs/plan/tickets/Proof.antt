@@ -2,6 +2,7 @@
 use mathlib.Core.Path.{_≡_, refl}
 use Prim.Native.Nat.{_-_, _≤_, _<_}
 use native.Mathlib.Omega.{arith}
+use denote.Ref.{now}
 use borrow.Author.Needs.{needs}
 use Rattle.planner.proofs.Surveying.{Ticketed, ticketed-none, ticketed-more, lent-counted}
 use Rattle.planner.proofs.plan.tickets.Statement.{statement}
@@ -37,7 +38,7 @@ part-ticket-end c = search needs
 ticket-requires : tie.Need-ticket-requires Inv-loop μ-loop
 ticket-requires c κs =
     let t = c .before in
-    lent-counted _ (t .before .loop .i) (start (t .before) .pre .good (t .before .loop .i) (t .loop-test .taken))
+    omega (arith, lent-counted (now (start (t .before) .args .batch)) (t .before .loop .i) (start (t .before) .pre .good (t .before .loop .i) (t .loop-test .taken)) .whole)
 
 mul-all : tie.Need-mul-all Inv-loop μ-loop
 mul-all c = search needs

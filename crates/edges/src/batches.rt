@@ -1,13 +1,11 @@
 // Commit: batches of a few pages on a state of eight keys.
+use crate::lent::LENT;
 use crate::tally::Tally;
 use crate::transactions;
 use crate::transactions::NOWHERE;
 use ledger::Committed;
 use ledger::Transaction;
 ghost use Prim.Native.Nat.{_<_};
-
-// What the verdicts are before a commit.
-const LENT: u8 = 0xaa;
 
 // The verdicts of commit.
 const PASSED: u8 = 0;

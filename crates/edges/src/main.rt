@@ -1,6 +1,8 @@
 // Runs the cases of document 01 that are not in the proved table, and others at each edge: a line for each group, with how many came out right.
 mod batches;
+mod lent;
 mod pages;
+mod plans;
 mod tally;
 mod texts;
 mod transactions;
@@ -30,4 +32,9 @@ fn main() {
         batches::faults(),
     );
     tally::show(b"commit, the lowest page at fault: ", batches::lowest());
+    tally::show(b"plan, the cases of the table: ", plans::cases());
+    tally::show(b"plan, cycles and stale pages: ", plans::losers());
+    tally::show(b"plan, the listing and Table 3: ", plans::examples());
+    tally::show(b"plan, chains and cycles of 64 pages: ", plans::long());
+    tally::show(b"plan, each length of the lent lists: ", plans::lengths());
 }

@@ -1,7 +1,11 @@
 // Runs the cases of document 01 that are not in the proved table, and others at each edge: a line for each group, with how many came out right.
+mod batches;
+mod lent;
 mod pages;
+mod plans;
 mod tally;
 mod texts;
+mod transactions;
 
 fn main() {
     tally::show(b"tonnage text, read: ", texts::read());
@@ -20,4 +24,17 @@ fn main() {
         pages::spoils(),
     );
     tally::show(b"pages, counts and room: ", pages::counts());
+    tally::show(b"commit, the rules: ", batches::rules());
+    tally::show(b"commit, both sides of a state entry: ", batches::entries());
+    tally::show(b"commit, both sides of each length: ", batches::lengths());
+    tally::show(
+        b"commit, each fault alone and with each later one: ",
+        batches::faults(),
+    );
+    tally::show(b"commit, the lowest page at fault: ", batches::lowest());
+    tally::show(b"plan, the cases of the table: ", plans::cases());
+    tally::show(b"plan, cycles and stale pages: ", plans::losers());
+    tally::show(b"plan, the listing and Table 3: ", plans::examples());
+    tally::show(b"plan, chains and cycles of 64 pages: ", plans::long());
+    tally::show(b"plan, each length of the lent lists: ", plans::lengths());
 }

@@ -1,4 +1,6 @@
 // Tonnage texts.
+use crate::lent;
+use crate::lent::LENT;
 use crate::tally::Tally;
 use tonnage::Reading;
 use tonnage::Writing;
@@ -191,25 +193,11 @@ pub fn long() -> Tally {
         .with(zero)
 }
 
-// What a buffer holds before a text is written.
-const LENT: u8 = 0xaa;
-
-// Whether a buffer begins with a text and is as lent behind it.
-fn begins(buffer: &[u8], text: &[u8]) -> bool {
-    for i in 0..buffer.len() {
-        let expected = if i < text.len() { text[i] } else { LENT };
-        if buffer[i] != expected {
-            return false;
-        }
-    }
-    text.len() <= buffer.len()
-}
-
 // Whether a figure is written as a text, and as that text only.
 fn writes(kilograms: i64, text: &[u8]) -> bool {
     let mut buffer = [LENT; 30];
     match tonnage::text::write_tonnage(&mut buffer, kilograms) {
-        Writing::Length { length } => length == text.len() && begins(&buffer, text),
+        Writing::Length { length } => length == text.len() && lent::begins(&buffer, text),
         Writing::Unwritten { refusal: _ } => false,
     }
 }
@@ -237,10 +225,10 @@ fn lowest_in(buffer: &mut [u8], n: usize) -> bool
 {
     match tonnage::text::write_tonnage(&mut buffer[..n], -9223372036854775808) {
         Writing::Length { length } => {
-            n >= 21 && length == 21 && begins(buffer, b"-9223372036854775,808")
+            n >= 21 && length == 21 && lent::begins(buffer, b"-9223372036854775,808")
         }
         Writing::Unwritten { refusal } => {
-            n < 21 && refusal.number == 20 && refusal.place == 0 && begins(buffer, b"")
+            n < 21 && refusal.number == 20 && refusal.place == 0 && lent::begins(buffer, b"")
         }
     }
 }

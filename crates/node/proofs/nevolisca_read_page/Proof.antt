@@ -17,10 +17,10 @@ enum-told : tie.Need-enum-told
 enum-told c = search needs
 
 cast-t16 : tie.Need-cast-t16
-cast-t16 c = omega (arith, room (c .before) .few-reads)
+cast-t16 c = omega (arith, room (c .before))
 
 cast-t17 : tie.Need-cast-t17
-cast-t17 c = omega (arith, room (c .before .before) .few-writes)
+cast-t17 c = omega (arith, room (c .before .before))
 
 fill-reads-requires : tie.Need-fill-reads-requires
 fill-reads-requires c κs = search needs

@@ -17,7 +17,7 @@ use Rattle.planner.specs.Plan.{planBatch}
 use Rattle.tonnage.specs.Services.{readText}
 use Rattle.claims.specs.Ascii.{ascii}
 use Rattle.claims.specs.Cases.{fresh, number, batchOf, planOf, commitOf, clash, reader, failing, counted}
-use Rattle.claims.proofs.Outcomes.{apart, value}
+use Rattle.claims.proofs.Outcomes.{apart}
 use Rattle.claims.proofs.Table as table
 
 -- "a service that refuses all": no service can
@@ -38,19 +38,23 @@ two-pages : pages (batchOf clash) ≡ 2
 unfolding batchOf pageOf bodyOf weighed le flat
 two-pages = refl
 
--- "a planner that calls all stale, or gives one verdict to every batch"
-pub plans-one-verdict : (v : ℕ) → ((batch : List ℕ) (s : State) (n : ℕ) (vs os out : List ℕ) (i : ℕ) → i < pages batch → getD (planBatch batch s n vs os out .verdicts) i 0 ≡ v) → ⊥
+-- "a planner that calls all stale, or gives one verdict to every batch": to every batch that it does not refuse
+pub plans-one-verdict :
+    (v : ℕ) →
+    ((batch : List ℕ) (s : State) (n : ℕ) (vs os out : List ℕ) (k : ℕ) → planBatch batch s n vs os out .answer ≡ gives k → (i : ℕ) → i < pages batch → getD (planBatch batch s n vs os out .verdicts) i 0 ≡ v) →
+    ⊥
 plans-one-verdict v f =
-    let at : (i : ℕ) → i < 2 → getD (planOf clash .verdicts) i 0 ≡ v = λ i h. f (batchOf clash) fresh number (replicate 2 9) (replicate 2 9) (replicate 1024 9) i (rw two-pages h) in
+    let at : (i : ℕ) → i < 2 → getD (planOf clash .verdicts) i 0 ≡ v = λ i h. f (batchOf clash) fresh number (replicate 2 9) (replicate 2 9) (replicate 1024 9) 1 (table.plan-clash .0) i (rw two-pages h) in
     let first : 2 ≡ v = sym (ap (λ (l : List ℕ). getD l 0 0) (table.plan-clash .1)) ∙ at 0 (omega arith) in
     let second : 0 ≡ v = sym (ap (λ (l : List ℕ). getD l 1 0) (table.plan-clash .1)) ∙ at 1 (omega arith) in
     omega arith
 
--- "a made-up kept count"
-pub plans-one-count : (k : ℕ) → ((batch : List ℕ) (s : State) (n : ℕ) (vs os out : List ℕ) → planBatch batch s n vs os out .answer ≡ gives k) → ⊥
+-- "a made-up kept count": one count for every batch that is not refused
+pub plans-one-count :
+    (k : ℕ) → ((batch : List ℕ) (s : State) (n : ℕ) (vs os out : List ℕ) (j : ℕ) → planBatch batch s n vs os out .answer ≡ gives j → j ≡ k) → ⊥
 plans-one-count k f =
-    let one : 1 ≡ k = value (table.plan-clash .0) (f (batchOf clash) fresh number (replicate 2 9) (replicate 2 9) (replicate 1024 9)) in
-    let two : 2 ≡ k = value (table.plan-reader .0) (f (batchOf reader) fresh number (replicate 2 9) (replicate 2 9) (replicate 1024 9)) in
+    let one : 1 ≡ k = f (batchOf clash) fresh number (replicate 2 9) (replicate 2 9) (replicate 1024 9) 1 (table.plan-clash .0) in
+    let two : 2 ≡ k = f (batchOf reader) fresh number (replicate 2 9) (replicate 2 9) (replicate 1024 9) 2 (table.plan-reader .0) in
     omega arith
 
 -- a state in which key 4 is absent is not the one that the commit of `failing` leaves
@@ -59,12 +63,12 @@ moved s g e =
     let p : 1 ≡ entry s 4 .version .place = sym (ap (λ (x : Entry). x .version .place) (table.commit-failing .2)) ∙ ap (λ (t : State). entry t 4 .version .place) e in
     omega arith
 
--- "a commit that leaves the state"
-pub commits-idle : ((batch : List ℕ) (s : State) (n : ℕ) (vs : List ℕ) → commitBatch batch s n vs .state ≡ s) → ⊥
+-- "a commit that leaves the state" of every batch that it does not refuse
+pub commits-idle : ((batch : List ℕ) (s : State) (n : ℕ) (vs : List ℕ) (k : ℕ) → commitBatch batch s n vs .answer ≡ gives k → commitBatch batch s n vs .state ≡ s) → ⊥
 unfolding entry
-commits-idle f = moved fresh refl (f (batchOf failing) fresh number (replicate 2 9))
+commits-idle f = moved fresh refl (f (batchOf failing) fresh number (replicate 2 9) 1 (table.commit-failing .0))
 
 -- "a commit that applies page 0 and only marks the others as passed": the state is that after page 0
-pub commits-first : ((batch : List ℕ) (s : State) (n : ℕ) (vs : List ℕ) → commitBatch batch s n vs .state ≡ afterPage n 0 s (txAt batch 0)) → ⊥
+pub commits-first : ((batch : List ℕ) (s : State) (n : ℕ) (vs : List ℕ) (k : ℕ) → commitBatch batch s n vs .answer ≡ gives k → commitBatch batch s n vs .state ≡ afterPage n 0 s (txAt batch 0)) → ⊥
 unfolding entry passes write afterPage batchOf pageOf bodyOf weighed le flat tab field pageTx
-commits-first f = moved (afterPage number 0 fresh (txAt (batchOf failing) 0)) refl (f (batchOf failing) fresh number (replicate 2 9))
+commits-first f = moved (afterPage number 0 fresh (txAt (batchOf failing) 0)) refl (f (batchOf failing) fresh number (replicate 2 9) 1 (table.commit-failing .0))

@@ -1,0 +1,8 @@
+//! A second opinion on the six proved services, a peer from the literature, and what is needed to compare them.
+#![deny(unsafe_code)]
+
+pub mod answer;
+#[allow(unsafe_code)]
+pub mod node;
+pub mod random;
+pub mod second;

@@ -4,5 +4,7 @@
 pub mod answer;
 #[allow(unsafe_code)]
 pub mod node;
+pub mod peer;
 pub mod random;
 pub mod second;
+pub mod workloads;

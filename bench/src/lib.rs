@@ -2,9 +2,13 @@
 #![deny(unsafe_code)]
 
 pub mod answer;
+pub mod measure;
 #[allow(unsafe_code)]
 pub mod node;
 pub mod peer;
+pub mod planning;
 pub mod random;
 pub mod second;
+pub mod services;
+pub mod table;
 pub mod workloads;

@@ -5,7 +5,7 @@
 #![forbid(unsafe_code)]
 
 use crate::random::Random;
-use crate::second::{write_page, Read, State, Transaction, Version, Write, PAGE};
+use crate::second::{read_page, write_page, Read, State, Transaction, Version, Write, PAGE};
 use std::collections::BTreeSet;
 
 /// Pages of a full batch.
@@ -127,6 +127,21 @@ fn lay(name: impl Into<String>, drafts: Vec<Draft>, each: usize) -> Workload {
     }
 }
 
+/// The batch with the lowest page's ticket on the last page too: every page is checked, then 15 is given there.
+pub fn doubled(workload: &Workload) -> Workload {
+    let mut batch = workload.batch.clone();
+    let first = read_page(&batch[..PAGE]).expect("a good page");
+    let last = batch.len() / PAGE - 1;
+    let mut changed = read_page(&batch[last * PAGE..]).expect("a good page");
+    changed.ticket = first.ticket;
+    write_page(&mut batch, last, &changed).expect("a good transaction");
+    Workload {
+        name: workload.name.clone(),
+        batch,
+        ledger: workload.ledger.clone(),
+    }
+}
+
 /// A full batch without conflicts.
 pub fn no_conflicts() -> Workload {
     lay(
@@ -182,20 +197,10 @@ fn random_conflicts(pages: usize, touched: usize, of: usize) -> Vec<Draft> {
     (0..pages).map(|_| Draft::of(&keys(), &keys())).collect()
 }
 
-fn hot_keys() -> Workload {
-    lay(
-        "hot keys: 1 of 32",
-        random_conflicts(FULL_BATCH, 1, 32),
-        FULL_PAGE,
-    )
-}
-
-fn hotter_keys() -> Workload {
-    lay(
-        "hot keys: 2 of 16",
-        random_conflicts(FULL_BATCH, 2, 16),
-        FULL_PAGE,
-    )
+/// A few of the reads and of the writes of each ticket go to a few keys.
+fn hot_keys(touched: usize, of: usize) -> Workload {
+    let drafts = random_conflicts(FULL_BATCH, touched, of);
+    lay(format!("hot keys: {touched} of {of}"), drafts, FULL_PAGE)
 }
 
 fn dense() -> Workload {
@@ -226,7 +231,10 @@ pub fn all() -> Vec<Workload> {
         writes_then_reads(),
     ];
     all.extend([2, 4, 8, 16, 32].map(cycles));
-    all.extend([hot_keys(), hotter_keys(), dense(), wide_first()]);
+    all.extend(
+        [(1, 64), (1, 32), (1, 16), (2, 64), (2, 16)].map(|(touched, of)| hot_keys(touched, of)),
+    );
+    all.extend([dense(), wide_first()]);
     all
 }
 

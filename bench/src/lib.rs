@@ -6,6 +6,7 @@ pub mod measure;
 #[allow(unsafe_code)]
 pub mod node;
 pub mod peer;
+pub mod picture;
 pub mod planning;
 pub mod random;
 pub mod second;

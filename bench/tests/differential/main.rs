@@ -32,7 +32,7 @@ fn seed() -> u64 {
 #[test]
 fn the_two_opinions_agree() {
     let seed = seed();
-    println!("answers: seed {seed} (another by {SEED_VARIABLE})");
+    println!("\nanswers: seed {seed} (another by {SEED_VARIABLE})");
     let (mut random, mut tally) = (Random::new(seed), Tally::default());
     pages::read_pages(&mut random, &mut tally, READ_PAGES);
     for _ in 0..EACH_BYTE {

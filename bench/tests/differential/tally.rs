@@ -62,11 +62,11 @@ impl Tally {
     pub fn print(&self) {
         for (service, name) in SERVICES {
             let row = &self.counts[service as usize];
-            print!("answers: {name:<13} good {}", row[0]);
-            for number in named(service).iter().cloned().flatten() {
-                print!(", {number}: {}", row[number]);
-            }
-            println!();
+            let numbers = named(service).iter().cloned().flatten();
+            let counts: Vec<String> = numbers
+                .map(|number| format!("{number}: {}", row[number]))
+                .collect();
+            println!("answers: {name:<13} good {}, {}", row[0], counts.join(", "));
         }
         let [_, _, plan, commit, _, _] = self.verdicts;
         let (kept, stale, cycle) = (plan[0], plan[1], plan[2]);

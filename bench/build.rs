@@ -18,4 +18,15 @@ fn main() {
     let folder = library.parent().expect("the library stands in a folder");
     println!("cargo:rustc-link-search=native={}", folder.display());
     println!("cargo:rustc-link-lib=static=node");
+    println!("cargo:rustc-env=RUSTC_VERSION={}", compiler());
+}
+
+/// The compiler's own name for itself, which the tables show.
+fn compiler() -> String {
+    let program = std::env::var("RUSTC").unwrap_or("rustc".to_string());
+    let said = std::process::Command::new(program)
+        .arg("--version")
+        .output();
+    let version = said.map(|output| String::from_utf8_lossy(&output.stdout).into_owned());
+    version.unwrap_or_default().trim().to_string()
 }

@@ -2,6 +2,8 @@
 #![deny(unsafe_code)]
 
 pub mod answer;
+pub mod goals;
+pub mod machine;
 pub mod measure;
 #[allow(unsafe_code)]
 pub mod node;

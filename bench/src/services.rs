@@ -3,6 +3,7 @@
 
 use crate::measure::{fastest, once, repeated};
 use crate::node;
+use crate::planning::Measured;
 use crate::second::{self, StateMut, LONGEST, PAGE};
 use crate::table::{ratio, time, Table};
 use crate::workloads::{
@@ -18,10 +19,10 @@ const LONG_FIGURE: i64 = i64::MIN;
 const SHORT_FIGURE: i64 = 68_400;
 
 /// A row: what is done, ours and Rust's nanoseconds.
-struct Row {
-    name: String,
-    ours: f64,
-    rust: f64,
+pub struct Row {
+    pub name: String,
+    pub ours: f64,
+    pub rust: f64,
 }
 
 /// Measures two sides in turns.
@@ -195,9 +196,9 @@ fn write_tonnage(name: &str, kilograms: i64) -> Row {
 }
 
 /// The two floors of a full batch: 32 KiB copied, and summed as 64-bit words or as single bytes.
-struct Floors {
-    words: f64,
-    bytes: f64,
+pub struct Floors {
+    pub words: f64,
+    pub bytes: f64,
 }
 
 fn floors(batch: &[u8]) -> Floors {
@@ -220,12 +221,20 @@ fn floors(batch: &[u8]) -> Floors {
     }
 }
 
-/// The tables of all services, and of a full batch against the floor.
-pub fn tables() -> Vec<Table> {
+/// All rows, and the floors.
+pub struct Services {
+    singles: Vec<Row>,
+    gate: Row,
+    batches: [Row; 4],
+    pub floors: Floors,
+}
+
+/// Measures every service.
+pub fn measure() -> Services {
     let (full, small) = (no_conflicts(), by_entries(1));
     let (full_page, small_page) = (&full.batch[..PAGE], &small.batch[..PAGE]);
     let n = FULL_PAGE;
-    let small_rows = [
+    let singles = vec![
         read_page(&format!("read a page, {n} reads and {n} writes"), full_page),
         read_page("read a page, 1 read and 1 write", small_page),
         write_page(
@@ -238,51 +247,82 @@ pub fn tables() -> Vec<Table> {
         write_tonnage("write tonnage, 6 bytes", SHORT_FIGURE),
         write_tonnage("write tonnage, 21 bytes", LONG_FIGURE),
     ];
-    let batch_rows = [
-        plan("gate: plan, refused with 15 at page 63", &doubled(&full)),
-        plan("plan 64 full pages", &full),
-        commit("commit 64 full pages", &full),
-        plan("plan 64 pages of 1 read and 1 write", &small),
-        commit("commit 64 pages of 1 read and 1 write", &small),
-    ];
-    let floors = floors(&full.batch);
-    vec![
-        services(&small_rows, &batch_rows),
-        against_floor(&batch_rows, &floors),
-    ]
+    Services {
+        singles,
+        gate: plan("gate: plan, refused with 15 at page 63", &doubled(&full)),
+        batches: [
+            plan("plan 64 full pages", &full),
+            commit("commit 64 full pages", &full),
+            plan("plan 64 pages of 1 read and 1 write", &small),
+            commit("commit 64 pages of 1 read and 1 write", &small),
+        ],
+        floors: floors(&full.batch),
+    }
 }
 
-fn services(small: &[Row], batches: &[Row]) -> Table {
-    let mut table = Table::new("Services", &["What", "ours", "Rust", "ours / Rust"]);
-    for row in small.iter().chain(batches) {
-        let cells = [time(row.ours), time(row.rust), ratio(row.ours / row.rust)];
-        table
-            .rows
-            .push([vec![row.name.clone()], cells.to_vec()].concat());
+impl Services {
+    /// Planning a full batch without conflicts.
+    pub fn full_plan(&self) -> &Row {
+        &self.batches[0]
     }
-    table
-}
 
-fn against_floor(batches: &[Row], floors: &Floors) -> Table {
-    let head = ["What", "time", "/ floor of words", "/ floor of bytes"];
-    let mut table = Table::new("A batch against the floor", &head);
-    let mut push = |name: String, nanoseconds: f64| {
-        let cells = [nanoseconds / floors.words, nanoseconds / floors.bytes].map(ratio);
-        table
-            .rows
-            .push([vec![name, time(nanoseconds)], cells.to_vec()].concat());
-    };
-    push(
-        "floor of words: copy 32 KiB, sum its 4096 words".to_string(),
-        floors.words,
-    );
-    push(
-        "floor of bytes: copy 32 KiB, sum its 32768 bytes".to_string(),
-        floors.bytes,
-    );
-    for row in batches {
-        push(format!("{}, ours", row.name), row.ours);
-        push(format!("{}, Rust", row.name), row.rust);
+    /// Committing it.
+    pub fn full_commit(&self) -> &Row {
+        &self.batches[1]
     }
-    table
+
+    fn on_batches(&self) -> impl Iterator<Item = &Row> {
+        std::iter::once(&self.gate).chain(&self.batches)
+    }
+
+    /// The row, workloads included, that is slowest beside Rust, with its ratio.
+    pub fn slowest<'a>(&'a self, planned: &'a [Measured]) -> (&'a str, f64) {
+        let rows = self.singles.iter().chain(self.on_batches());
+        let rows = rows.map(|row| (row.name.as_str(), row.ours / row.rust));
+        let planned = planned
+            .iter()
+            .map(|one| (one.name.as_str(), one.ours / one.rust));
+        let slowest = rows
+            .chain(planned)
+            .max_by(|one, other| one.1.total_cmp(&other.1));
+        slowest.expect("there are rows")
+    }
+
+    /// Every service beside Rust.
+    pub fn table(&self) -> Table {
+        let mut table = Table::new("Services", &["What", "ours", "Rust", "ours / Rust"]);
+        for row in self.singles.iter().chain(self.on_batches()) {
+            let cells = [time(row.ours), time(row.rust), ratio(row.ours / row.rust)];
+            table
+                .rows
+                .push([vec![row.name.clone()], cells.to_vec()].concat());
+        }
+        table
+    }
+
+    /// Batches beside the floors.
+    pub fn against_floor(&self) -> Table {
+        let head = ["What", "time", "/ floor of words", "/ floor of bytes"];
+        let mut table = Table::new("A batch against the floor", &head);
+        let floors = &self.floors;
+        let mut push = |name: String, nanoseconds: f64| {
+            let cells = [nanoseconds / floors.words, nanoseconds / floors.bytes].map(ratio);
+            table
+                .rows
+                .push([vec![name, time(nanoseconds)], cells.to_vec()].concat());
+        };
+        push(
+            "floor of words: copy 32 KiB, sum its 4096 words".to_string(),
+            floors.words,
+        );
+        push(
+            "floor of bytes: copy 32 KiB, sum its 32768 bytes".to_string(),
+            floors.bytes,
+        );
+        for row in self.on_batches() {
+            push(format!("{}, ours", row.name), row.ours);
+            push(format!("{}, Rust", row.name), row.rust);
+        }
+        table
+    }
 }

@@ -15,7 +15,7 @@ pub fn gate<'a>(
     n: u32,
     lent_enough: impl Fn(usize) -> bool,
 ) -> Result<Vec<Page<'a>>, Refusal> {
-    if batch.len() > MOST_PAGES * PAGE || !batch.len().is_multiple_of(PAGE) {
+    if batch.len() > MOST_PAGES * PAGE || batch.len() % PAGE != 0 {
         return Err(Reason::BatchLength.at(0));
     }
     state.check(n)?;

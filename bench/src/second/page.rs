@@ -108,7 +108,7 @@ impl<'a> Page<'a> {
         let last_write = self.writes().next_back().map(|write| write.key);
         last_read
             .max(last_write)
-            .is_none_or(|key| usize::from(key) < keys)
+            .map_or(true, |key| usize::from(key) < keys)
     }
 }
 

@@ -2,7 +2,7 @@
 #![forbid(unsafe_code)]
 
 use crate::planning::Measured;
-use crate::services::Services;
+use crate::services::{Row, Services};
 use crate::table::{ratio, Table};
 
 const HALF: f64 = 0.5;
@@ -12,56 +12,80 @@ const PEER: f64 = 10.0;
 /// The workload that has no conflicts.
 const NO_CONFLICTS: &str = "no conflicts";
 
-/// The goals, what was measured, and whether it meets them.
+/// A goal, what was measured, and whether it meets the goal.
+type Goal = (&'static str, String, bool);
+
+/// The goals and where we stand.
 pub fn table(services: &Services, planned: &[Measured]) -> Table {
     let mut table = Table::new("Goals", &["Goal", "measured", "met"]);
-    let mut push = |goal: &str, measured: String, met: bool| {
+    let goals = [
+        beside_rust(services, planned),
+        beside_floor(services),
+        beside_peer(planned),
+    ];
+    for (goal, measured, met) in goals.into_iter().flatten() {
         let met = if met { "yes" } else { "no" };
-        let cells = [goal, &measured, met].map(str::to_string);
-        table.rows.push(cells.to_vec());
-    };
-    for (goal, row) in [
+        table
+            .rows
+            .push(vec![goal.to_string(), measured, met.to_string()]);
+    }
+    table
+}
+
+fn beside_rust(services: &Services, planned: &[Measured]) -> Vec<Goal> {
+    let part = |row: &Row| row.ours / row.rust;
+    let (plan, commit) = (part(services.full_plan()), part(services.full_commit()));
+    let (name, worst) = services.slowest(planned);
+    let slowest = format!("at worst {} ({name})", ratio(worst));
+    vec![
         (
             "plan 64 full pages in at most half of Rust's time",
-            services.full_plan(),
+            ratio(plan),
+            plan <= HALF,
         ),
         (
             "commit 64 full pages in at most half of Rust's time",
-            services.full_commit(),
+            ratio(commit),
+            commit <= HALF,
         ),
-    ] {
-        let part = row.ours / row.rust;
-        push(goal, ratio(part), part <= HALF);
-    }
-    let (name, worst) = services.slowest(planned);
-    let measured = format!("at worst {} ({name})", ratio(worst));
-    push("no row slower than Rust", measured, worst <= EQUAL);
-    for (goal, floor) in [
+        ("no row slower than Rust", slowest, worst <= EQUAL),
+    ]
+}
+
+fn beside_floor(services: &Services) -> Vec<Goal> {
+    let plan = services.full_plan().ours;
+    let (words, bytes) = (plan / services.floors.words, plan / services.floors.bytes);
+    vec![
         (
             "plan 64 full pages within 1.5 times the floor of words",
-            services.floors.words,
+            ratio(words),
+            words <= FLOOR,
         ),
         (
             "plan 64 full pages within 1.5 times the floor of bytes",
-            services.floors.bytes,
+            ratio(bytes),
+            bytes <= FLOOR,
         ),
-    ] {
-        let times = services.full_plan().ours / floor;
-        push(goal, ratio(times), times <= FLOOR);
-    }
-    let whole = |one: &Measured| one.peer / one.ours;
+    ]
+}
+
+fn beside_peer(planned: &[Measured]) -> Vec<Goal> {
+    let goal = |what, (name, least): (&str, f64)| -> Goal {
+        (
+            what,
+            format!("at least {} ({name})", ratio(least)),
+            least >= PEER,
+        )
+    };
+    let whole = least_lead(planned, |one| one.peer / one.ours);
     let beyond = |one: &Measured| (one.peer - one.rust_gate) / (one.ours - one.our_gate);
-    let (name, least) = least_lead(planned, whole);
-    let measured = format!("at least {} ({name})", ratio(least));
-    push(
-        "ten times ahead of the peer wherever there are conflicts",
-        measured,
-        least >= PEER,
-    );
-    let (name, least) = least_lead(planned, beyond);
-    let measured = format!("at least {} ({name})", ratio(least));
-    push("the same beyond the gate", measured, least >= PEER);
-    table
+    vec![
+        goal(
+            "ten times ahead of the peer wherever there are conflicts",
+            whole,
+        ),
+        goal("the same beyond the gate", least_lead(planned, beyond)),
+    ]
 }
 
 /// The workload with conflicts in which we are least ahead of the peer, and by how many times.

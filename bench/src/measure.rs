@@ -9,7 +9,9 @@ pub type Side<'a> = &'a mut dyn FnMut() -> f64;
 /// How long a repetition should take: short enough to fall between interruptions, long against the clock's grain.
 const REPETITION: Duration = Duration::from_micros(30);
 /// Rounds that are made even where the time is used up.
-const LEAST_ROUNDS: usize = 3;
+const LEAST_ROUNDS: usize = 2;
+/// How often everything is measured anew, so that a busy spell of the machine falls on no row alone.
+pub const PASSES: usize = 3;
 
 /// The fastest nanoseconds of each side within the given time, A, B, A, B and so on.
 pub fn fastest(time: Duration, sides: &mut [Side<'_>]) -> Vec<f64> {

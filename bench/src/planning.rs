@@ -1,7 +1,7 @@
 //! The tables of planning: workloads beside the second opinion and the peer, and growth.
 #![forbid(unsafe_code)]
 
-use crate::measure::{fastest, once, Side};
+use crate::measure::{fastest, once, Side, PASSES};
 use crate::node;
 use crate::peer;
 use crate::second::PAGE;
@@ -11,10 +11,10 @@ use crate::workloads::{self, doubled, Workload, FULL_BATCH};
 use std::hint::black_box;
 use std::time::Duration;
 
-/// Time for the two sides of a workload, for the peer, and for a step of growth.
-const WORKLOAD: Duration = Duration::from_millis(500);
-const PEER: Duration = Duration::from_millis(300);
-const STEP: Duration = Duration::from_millis(200);
+/// Time in one pass for the sides of a workload, for the peer, and for a step of growth.
+const WORKLOAD: Duration = Duration::from_millis(200);
+const PEER: Duration = Duration::from_millis(80);
+const STEP: Duration = Duration::from_millis(80);
 
 /// What was measured of a workload.
 pub struct Measured {
@@ -30,9 +30,28 @@ pub struct Measured {
     pub cap_hit: bool,
 }
 
-/// Measures all workloads.
+/// Measures all workloads in several passes; the fastest of each counts.
 pub fn measure() -> Vec<Measured> {
-    workloads::all().iter().map(measure_one).collect()
+    let workloads = workloads::all();
+    let pass = || -> Vec<Measured> { workloads.iter().map(measure_one).collect() };
+    let mut best = pass();
+    for _ in 1..PASSES {
+        best.iter_mut()
+            .zip(&pass())
+            .for_each(|(one, other)| one.improve(other));
+    }
+    best
+}
+
+impl Measured {
+    /// Takes over what another pass did faster.
+    fn improve(&mut self, other: &Measured) {
+        self.ours = self.ours.min(other.ours);
+        self.rust = self.rust.min(other.rust);
+        self.peer = self.peer.min(other.peer);
+        self.our_gate = self.our_gate.min(other.our_gate);
+        self.rust_gate = self.rust_gate.min(other.rust_gate);
+    }
 }
 
 fn measure_one(workload: &Workload) -> Measured {
@@ -155,15 +174,21 @@ pub fn growth() -> Vec<Table> {
 }
 
 fn steps(title: &str, what: &str, steps: &[Workload]) -> Table {
+    let mut best = vec![[f64::INFINITY; 2]; steps.len()];
+    for _ in 0..PASSES {
+        for (step, best) in steps.iter().zip(&mut best) {
+            let (mut ours, mut rust) = (our_plan(step), rust_plan(step));
+            let pass = fastest(STEP, &mut [&mut ours, &mut rust]);
+            *best = [best[0].min(pass[0]), best[1].min(pass[1])];
+        }
+    }
     let mut table = Table::new(title, &[what, "ours", "Rust", "ours / Rust", "kept"]);
-    for step in steps {
-        let (mut ours, mut rust) = (our_plan(step), rust_plan(step));
-        let best = fastest(STEP, &mut [&mut ours, &mut rust]);
+    for (step, [ours, rust]) in steps.iter().zip(best) {
         table.rows.push(vec![
             step.name.clone(),
-            time(best[0]),
-            time(best[1]),
-            ratio(best[0] / best[1]),
+            time(ours),
+            time(rust),
+            ratio(ours / rust),
             kept(step).to_string(),
         ]);
     }

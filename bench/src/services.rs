@@ -1,7 +1,7 @@
 //! The table of the services: ours, the second opinion, and their ratio.
 #![forbid(unsafe_code)]
 
-use crate::measure::{fastest, once, repeated};
+use crate::measure::{fastest, once, repeated, PASSES};
 use crate::node;
 use crate::planning::Measured;
 use crate::second::{self, StateMut, LONGEST, PAGE};
@@ -12,8 +12,8 @@ use crate::workloads::{
 use std::hint::black_box;
 use std::time::Duration;
 
-/// Time for one row.
-const ROW: Duration = Duration::from_millis(500);
+/// Time for one row in one pass.
+const ROW: Duration = Duration::from_millis(170);
 /// A figure with all its digits.
 const LONG_FIGURE: i64 = i64::MIN;
 const SHORT_FIGURE: i64 = 68_400;
@@ -229,8 +229,17 @@ pub struct Services {
     pub floors: Floors,
 }
 
-/// Measures every service.
+/// Measures every service in several passes; the fastest of each row counts.
 pub fn measure() -> Services {
+    let mut best = pass();
+    for _ in 1..PASSES {
+        best.improve(&pass());
+    }
+    best
+}
+
+/// Measures every service once.
+fn pass() -> Services {
     let (full, small) = (no_conflicts(), by_entries(1));
     let (full_page, small_page) = (&full.batch[..PAGE], &small.batch[..PAGE]);
     let n = FULL_PAGE;
@@ -260,7 +269,26 @@ pub fn measure() -> Services {
     }
 }
 
+impl Row {
+    fn improve(&mut self, other: &Row) {
+        self.ours = self.ours.min(other.ours);
+        self.rust = self.rust.min(other.rust);
+    }
+}
+
 impl Services {
+    /// Takes over what another pass did faster.
+    fn improve(&mut self, other: &Services) {
+        let singles = self.singles.iter_mut().zip(&other.singles);
+        let batches = self.batches.iter_mut().zip(&other.batches);
+        singles
+            .chain(batches)
+            .for_each(|(row, other)| row.improve(other));
+        self.gate.improve(&other.gate);
+        self.floors.words = self.floors.words.min(other.floors.words);
+        self.floors.bytes = self.floors.bytes.min(other.floors.bytes);
+    }
+
     /// Planning a full batch without conflicts.
     pub fn full_plan(&self) -> &Row {
         &self.batches[0]

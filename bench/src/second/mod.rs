@@ -1,0 +1,17 @@
+//! The second opinion: all six services in plain safe Rust, written from document 01 alone.
+#![forbid(unsafe_code)]
+
+mod commit;
+mod gate;
+mod page;
+mod plan;
+mod reason;
+mod state;
+mod tonnage;
+
+pub use commit::commit;
+pub use gate::gate;
+pub use page::{read_page, write_page, Page, Read, Transaction, Write, ENTRIES, PAGE};
+pub use plan::{current, plan, KEPT};
+pub use state::{State, StateMut, Version};
+pub use tonnage::{read_tonnage, write_tonnage, LONGEST};

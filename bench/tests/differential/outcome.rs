@@ -1,0 +1,74 @@
+//! What a call leaves behind, and the comparison of two opinions on it.
+
+use crate::guarded::{bytes_of, Entry, Guarded};
+use nevolisca_bench::answer::Answer;
+
+/// A service of document 01.
+#[derive(Clone, Copy, Debug, PartialEq, Eq)]
+pub enum Service {
+    ReadPage,
+    WritePage,
+    Plan,
+    Commit,
+    ReadTonnage,
+    WriteTonnage,
+}
+
+/// The bytes of every lent list, by name.
+pub type Lent = Vec<(&'static str, Vec<u8>)>;
+
+/// The answer, everything lent as it is afterwards, and whether the canaries stand.
+#[derive(Clone, Debug)]
+pub struct Outcome {
+    pub answer: Answer,
+    pub lent: Lent,
+    pub guards_stand: bool,
+}
+
+/// One call that both opinions are asked for.
+pub trait Case: std::fmt::Debug {
+    const SERVICE: Service;
+    /// Everything lent, before the call.
+    fn lent(&self) -> Lent;
+    fn by_node(&self) -> Outcome;
+    fn by_second(&self) -> Outcome;
+}
+
+/// Adds a guarded list to what a call left.
+pub fn take<T: Entry>(outcome: &mut Outcome, name: &'static str, list: &Guarded<T>) {
+    outcome.lent.push((name, bytes_of(list.lent())));
+    outcome.guards_stand &= list.stands();
+}
+
+/// Says how the proved services' outcome differs from the second opinion, or from the rule on refusals.
+pub fn compare(before: &Lent, node: &Outcome, second: &Outcome) -> Result<(), String> {
+    if !node.guards_stand {
+        return Err("a canary was written".to_string());
+    }
+    if node.answer != second.answer {
+        let (ours, theirs) = (node.answer, second.answer);
+        return Err(format!("answers differ: node {ours:?}, second {theirs:?}"));
+    }
+    same_lists(&node.lent, &second.lent)?;
+    if node.answer.is_err() {
+        same_lists(&node.lent, before).map_err(|text| format!("changed on a refusal: {text}"))?;
+    }
+    Ok(())
+}
+
+/// Names the first byte in which two sets of lists differ.
+fn same_lists(some: &Lent, others: &Lent) -> Result<(), String> {
+    if some.len() != others.len() {
+        return Err("another number of lists".to_string());
+    }
+    for ((name, one), (other_name, other)) in some.iter().zip(others) {
+        if name != other_name || one.len() != other.len() {
+            return Err(format!("{name} and {other_name} are no pair"));
+        }
+        if one != other {
+            let at = one.iter().zip(other).position(|(a, b)| a != b);
+            return Err(format!("{name} differs at byte {at:?}"));
+        }
+    }
+    Ok(())
+}

@@ -1,0 +1,294 @@
+//! Document 01's own worked cases, asked of both opinions.
+#![forbid(unsafe_code)]
+
+use nevolisca_bench::answer::{Answer, Refusal};
+use nevolisca_bench::node;
+use nevolisca_bench::second::{self, Read, State, StateMut, Transaction, Version, Write, PAGE};
+
+const ABSENT: Version = Version::ABSENT;
+
+fn refused(number: u32, place: u32) -> Answer {
+    Err(Refusal { number, place })
+}
+
+fn put(key: u16, value: i64) -> Write {
+    Write {
+        key,
+        kind: 0,
+        value,
+    }
+}
+
+fn read(key: u16) -> Read {
+    Read {
+        key,
+        version: ABSENT,
+    }
+}
+
+fn transaction(ticket: u32, reads: &[Read], writes: &[Write]) -> Transaction {
+    let mut transaction = Transaction {
+        read_count: reads.len() as u32,
+        write_count: writes.len() as u32,
+        ticket,
+        ..Transaction::default()
+    };
+    transaction.reads[..reads.len()].copy_from_slice(reads);
+    transaction.writes[..writes.len()].copy_from_slice(writes);
+    transaction
+}
+
+fn lent(from: &Transaction) -> node::Transaction {
+    node::Transaction {
+        head: [from.read_count, from.write_count, from.ticket],
+        read_keys: from.reads.map(|read| read.key),
+        read_places: from.reads.map(|read| read.version.place),
+        read_blocks: from.reads.map(|read| read.version.block),
+        write_keys: from.writes.map(|write| write.key),
+        write_kinds: from.writes.map(|write| write.kind),
+        write_values: from.writes.map(|write| write.value),
+    }
+}
+
+/// The page as both write it, and what both answer.
+fn page(ticket: u32, reads: &[Read], writes: &[Write]) -> Result<Vec<u8>, Refusal> {
+    let transaction = transaction(ticket, reads, writes);
+    let (mut ours, mut theirs) = (vec![1; PAGE], vec![2; PAGE]);
+    let answer = node::write_page(&mut ours, 0, lent(&transaction).parts());
+    assert_eq!(
+        answer,
+        second::write_page(&mut theirs, 0, &transaction).map(|()| 0)
+    );
+    answer?;
+    assert_eq!(ours, theirs);
+    assert_eq!(second::read_page(&ours), Ok(transaction));
+    Ok(ours)
+}
+
+fn pages(list: &[(u32, &[Read], &[Write])]) -> Vec<u8> {
+    let each = list
+        .iter()
+        .map(|(ticket, reads, writes)| page(*ticket, reads, writes));
+    each.map(|page| page.expect("a good page"))
+        .collect::<Vec<_>>()
+        .concat()
+}
+
+/// A state as lists, and its number.
+#[derive(Clone, Debug, PartialEq)]
+struct Ledger {
+    blocks: Vec<u32>,
+    places: Vec<u16>,
+    values: Vec<i64>,
+    n: u32,
+}
+
+impl Ledger {
+    fn absent(keys: usize, n: u32) -> Self {
+        Ledger {
+            blocks: vec![0; keys],
+            places: vec![65535; keys],
+            values: vec![0; keys],
+            n,
+        }
+    }
+
+    fn entry(&self, key: usize) -> (u32, u16, i64) {
+        (self.blocks[key], self.places[key], self.values[key])
+    }
+}
+
+/// The answer, the verdicts and the order of both planners.
+fn plan(batch: &[u8], ledger: &Ledger) -> (Answer, Vec<u8>, Vec<u8>, Vec<u8>) {
+    let m = batch.len() / PAGE;
+    let (mut verdicts, mut order, mut out) = (vec![9; m], vec![9; m], vec![9; m * PAGE]);
+    let Ledger {
+        blocks,
+        places,
+        values,
+        n,
+    } = ledger;
+    let ours = node::plan(
+        batch,
+        blocks,
+        places,
+        values,
+        *n,
+        &mut verdicts,
+        &mut order,
+        &mut out,
+    );
+    let (mut verdicts2, mut order2, mut out2) = (vec![9; m], vec![9; m], vec![9; m * PAGE]);
+    let state = State {
+        blocks,
+        places,
+        values,
+    };
+    let theirs = second::plan(batch, state, *n, &mut verdicts2, &mut order2, &mut out2);
+    assert_eq!(
+        (ours, &verdicts, &order, &out),
+        (theirs, &verdicts2, &order2, &out2)
+    );
+    (ours, verdicts, order, out)
+}
+
+/// The answer, the verdicts and the state of both commits.
+fn commit(batch: &[u8], ledger: &Ledger) -> (Answer, Vec<u8>, Ledger) {
+    let m = batch.len() / PAGE;
+    let (mut ours, mut verdicts, n) = (ledger.clone(), vec![9; m], ledger.n);
+    let (blocks, places, values) = (&mut ours.blocks, &mut ours.places, &mut ours.values);
+    let answer = node::commit(batch, blocks, places, values, n, &mut verdicts);
+    let (mut theirs, mut verdicts2) = (ledger.clone(), vec![9; m]);
+    let state = StateMut {
+        blocks: &mut theirs.blocks,
+        places: &mut theirs.places,
+        values: &mut theirs.values,
+    };
+    assert_eq!(answer, second::commit(batch, state, n, &mut verdicts2));
+    assert_eq!((&verdicts, &ours), (&verdicts2, &theirs));
+    (answer, verdicts, ours)
+}
+
+/// A text as both read it.
+fn tonnage(text: &str) -> Result<i64, Refusal> {
+    let mut kilograms = 0;
+    let answer = node::read_tonnage(text.as_bytes(), &mut kilograms);
+    let read = answer.map(|_| kilograms);
+    assert_eq!(read, second::read_tonnage(text.as_bytes()));
+    read
+}
+
+fn not_of_the_form() -> Result<i64, Refusal> {
+    Err(Refusal {
+        number: 18,
+        place: 0,
+    })
+}
+
+#[test]
+fn ticket_7_puts_68400_on_key_5() {
+    let page = page(7, &[], &[put(5, 68400)]).expect("good");
+    let head = [0x54, 0, 1, 0, 7, 0, 0, 0, 5, 0, 0, 0, 0x30, 0x0B, 1];
+    assert_eq!(page[..head.len()], head);
+    assert!(page[head.len()..508].iter().all(|&byte| byte == 0));
+    assert_eq!(page[508..], [0xC0, 3, 0, 0]);
+}
+
+#[test]
+fn what_fits_on_a_page() {
+    let reads: Vec<Read> = (0..32).map(read).collect();
+    let writes: Vec<Write> = (0..32).map(|key| put(key, 1)).collect();
+    assert!(page(1, &reads[..25], &writes[..25]).is_ok());
+    assert_eq!(
+        page(1, &reads[..26], &writes[..25]).map(|_| 0),
+        refused(5, 0)
+    );
+    assert!(page(1, &reads, &writes[..20]).is_ok());
+    assert_eq!(page(1, &reads, &writes[..21]).map(|_| 0), refused(5, 0));
+}
+
+#[test]
+fn texts() {
+    assert_eq!(tonnage("68,400"), Ok(68400));
+    assert_eq!(tonnage("-0,050"), Ok(-50));
+    for text in ["684", "-0,000", "68,4", "068,400", ""] {
+        assert_eq!(tonnage(text), not_of_the_form());
+    }
+    assert_eq!(tonnage("9223372036854775,807"), Ok(i64::MAX));
+    let outside = Err(Refusal {
+        number: 19,
+        place: 0,
+    });
+    assert_eq!(tonnage("9223372036854775,808"), outside);
+    assert_eq!(tonnage("-9223372036854775,808"), Ok(i64::MIN));
+}
+
+#[test]
+fn the_longest_text_has_21_bytes() {
+    let mut buffer = [0; second::LONGEST];
+    assert_eq!(second::write_tonnage(&mut buffer, i64::MIN), Ok(21));
+    assert_eq!(&buffer, b"-9223372036854775,808");
+}
+
+#[test]
+fn two_that_read_and_write_key_3() {
+    let batch = pages(&[(9, &[read(3)], &[put(3, 1)]), (4, &[read(3)], &[put(3, 2)])]);
+    let (answer, verdicts, order, _) = plan(&batch, &Ledger::absent(8, 1));
+    assert_eq!((answer, verdicts, order), (Ok(1), vec![2, 0], vec![1, 9]));
+}
+
+#[test]
+fn the_reader_stands_first_even_with_the_higher_ticket() {
+    let batch = pages(&[(1, &[], &[put(1, 5)]), (2, &[read(1)], &[])]);
+    let (answer, verdicts, order, _) = plan(&batch, &Ledger::absent(8, 1));
+    assert_eq!((answer, verdicts, order), (Ok(2), vec![0, 0], vec![1, 0]));
+}
+
+#[test]
+fn two_writers_of_key_3() {
+    let batch = pages(&[(9, &[], &[put(3, 90)]), (4, &[], &[put(3, 40)])]);
+    let (answer, verdicts, order, out) = plan(&batch, &Ledger::absent(8, 1));
+    assert_eq!((answer, verdicts, order), (Ok(2), vec![0, 0], vec![1, 0]));
+    let (_, _, after) = commit(&out, &Ledger::absent(8, 1));
+    assert_eq!(after.entry(3), (1, 1, 90));
+}
+
+#[test]
+fn empty_and_full_batches() {
+    let ledger = Ledger::absent(8, 1);
+    assert_eq!(plan(&[], &ledger).0, Ok(0));
+    assert_eq!(commit(&[], &ledger), (Ok(0), vec![], ledger.clone()));
+    let all: Vec<u8> = (0..65)
+        .flat_map(|ticket| page(ticket, &[], &[]).expect("good"))
+        .collect();
+    assert_eq!(plan(&all[..64 * PAGE], &ledger).0, Ok(64));
+    assert_eq!(plan(&all, &ledger).0, refused(11, 0));
+}
+
+#[test]
+fn a_block_not_below_n() {
+    let mut ledger = Ledger::absent(2, 5);
+    (ledger.blocks[1], ledger.places[1]) = (5, 0);
+    assert_eq!(plan(&[], &ledger).0, refused(13, 1));
+    ledger.blocks[1] = 4;
+    assert_eq!(plan(&[], &ledger).0, Ok(0));
+    ledger.places[1] = 65535;
+    assert_eq!(plan(&[], &ledger).0, refused(13, 1));
+}
+
+#[test]
+fn a_failing_page_uses_up_its_place() {
+    let stale = Read {
+        key: 0,
+        version: Version { block: 0, place: 0 },
+    };
+    let batch = pages(&[(1, &[stale], &[put(1, 1)]), (2, &[read(0)], &[put(2, 2)])]);
+    let (answer, verdicts, after) = commit(&batch, &Ledger::absent(4, 7));
+    assert_eq!((answer, verdicts), (Ok(1), vec![3, 0]));
+    assert_eq!(after.entry(1), (0, 65535, 0));
+    assert_eq!(after.entry(2), (7, 1, 2));
+}
+
+#[test]
+fn the_listing() {
+    let first = Read {
+        key: 8,
+        version: Version { block: 0, place: 0 },
+    };
+    let batch = pages(&[
+        (10, &[], &[put(5, 68400)]),
+        (20, &[read(5)], &[put(6, 100)]),
+        (30, &[read(6)], &[put(7, -50)]),
+        (40, &[read(7)], &[put(5, 1)]),
+        (50, &[first], &[]),
+    ]);
+    let ledger = Ledger::absent(1024, 1);
+    let (answer, verdicts, order, out) = plan(&batch, &ledger);
+    assert_eq!((answer, verdicts), (Ok(3), vec![0, 0, 0, 2, 1]));
+    assert_eq!(order[..3], [2, 1, 0]);
+    let (answer, _, after) = commit(&out[..3 * PAGE], &ledger);
+    assert_eq!(answer, Ok(3));
+    assert_eq!(after.entry(5), (1, 2, 68400));
+    assert_eq!(after.entry(6), (1, 1, 100));
+    assert_eq!(after.entry(7), (1, 0, -50));
+}

@@ -113,6 +113,19 @@ module _ (before : ℕ → ℕ → Bool) (K : ℕ → Bool) (t : ℕ) where
     pub ends : Way before K t t → ⊥
     ends p = shut t (inv .start) p
 
+-- a way from t back to t begins with a demand of t on itself or on one in K: none where nobody in K awaits t
+pub unawaited : (before : ℕ → ℕ → Bool) (K awaited : ℕ → Bool) (t : ℕ) → ((d : ℕ) → K d ≡ true → before t d ≡ true → awaited t ≡ true) → (awaited t || before t t) ≡ false → Way before K t t → ⊥
+unawaited before K awaited t f e (last h) = clash (sym (or-second (awaited t) _ h) ∙ e)
+unawaited before K awaited t f e (step {d = d} h k p) = clash (sym (or-first (awaited t) _ (f d k h)) ∙ e)
+
+-- t comes to K, and those that must stand before it to the awaited
+pub awaits-more : (before : ℕ → ℕ → Bool) (K K′ W W′ : ℕ → Bool) (t : ℕ) → ((j d : ℕ) → K d ≡ true → before j d ≡ true → W j ≡ true)
+    → ((j : ℕ) → K′ j ≡ (K j || eqb t j)) → ((j : ℕ) → W′ j ≡ (W j || before j t)) → (j d : ℕ) → K′ d ≡ true → before j d ≡ true → W′ j ≡ true
+awaits-more before K K′ W W′ t old k w j d h b = w j ∙ ⊎-elim
+    (λ i. or-first (W j) _ (old j d i b))
+    (λ q. or-second (W j) _ (subst (λ (x : ℕ). before j x ≡ true) (sym (eqb→eq t d (of-true (eqb t d) q))) b))
+    (or-either (K d) _ (sym (k d) ∙ h))
+
 -- ---- admission, one turn after the other: K holds the kept of a sequence
 
 pub holds-none : (K : ℕ → Bool) → ((j : ℕ) → K j ≡ false) → Holds K []

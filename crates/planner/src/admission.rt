@@ -8,7 +8,7 @@ ghost use Rattle.lists.specs.Members.{upto};
 ghost use Rattle.orders.specs.Admission.{admit};
 ghost use Rattle.orders.specs.Walk.{Holds, Way};
 ghost use Rattle.sets.specs.Set.{member};
-ghost use Rattle.planner.specs.Ranks.{demands};
+ghost use Rattle.planner.specs.Ranks.{demands, Awaits};
 
 // Whether demands lead from t back to t by way of the kept: a walk from t to those that must stand before it, and on.
 fn leads_back(blockers: &[u64; 64], kept: u64, t: usize) -> bool
@@ -32,16 +32,30 @@ fn leads_back(blockers: &[u64; 64], kept: u64, t: usize) -> bool
     }
 }
 
+// Whether t closes a cycle with the kept: only one that t itself or a kept one waits for can. `awaited` has all that a kept one waits for.
+fn closes_cycle(blockers: &[u64; 64], kept: u64, awaited: u64, t: usize) -> bool
+    requires { ⌜ t < 64 ⌝ }
+    requires { ⌜ Awaits (now blockers) kept awaited ⌝ }
+    ensures { λ r. ⌜ ((r ≡ true) ↔ Way (demands (now (blockers .entry))) (member kept) t t) ⌝ }
+{
+    if !sets::has(sets::union(awaited, blockers[t]), t) {
+        return false;
+    }
+    leads_back(blockers, kept, t)
+}
+
 // The kept among the first `count` ranks, taken in rising order.
 pub fn admitted(blockers: &[u64; 64], count: usize) -> u64
     requires { ⌜ count ≤ 64 ⌝ }
     ensures { λ r. ⌜ Holds (member r) (admit (demands (now (blockers .entry))) [] (upto count)) ⌝ }
 {
     let mut kept = 0u64;
+    let mut awaited = 0u64;
     let mut t = 0;
     while t < count {
-        if !leads_back(blockers, kept, t) {
+        if !closes_cycle(blockers, kept, awaited, t) {
             kept = sets::with(kept, t);
+            awaited = sets::union(awaited, blockers[t]);
         }
         t += 1;
     }

@@ -9,6 +9,9 @@ ghost use Rattle.tonnage.specs.Text.{other, follow, digits, width, beyon
 // The first number that no figure of signed 64 bits reaches, with or without a minus.
 pub const BEYOND: u64 = 9223372036854775809;
 
+// The greatest number that with one more digit stays at or below it.
+const MOST_BEFORE: u64 = 922337203685477580;
+
 // The first index from `from` up to, not including, `to` that holds no digit; `to` where all do.
 pub fn first_other(text: &[u8], from: usize, to: usize) -> usize
     requires { ⌜ (from ≤ to) × (to ≤ length (now text)) ⌝ }
@@ -32,14 +35,10 @@ fn with_digit(n: u64, digit: u8) -> u64
     requires { ⌜ (n ≤ beyond) × (48 ≤ digit) × (digit ≤ 57) ⌝ }
     ensures { λ r. ⌜ r ≡ min beyond (10 * n + (digit - 48)) ⌝ }
 {
-    if n >= 922337203685477581 {
+    if n > MOST_BEFORE {
         return BEYOND;
     }
-    let next = 10 * n + (digit - b'0') as u64;
-    if next > BEYOND {
-        return BEYOND;
-    }
-    next
+    10 * n + (digit - b'0') as u64
 }
 
 // The number that the digits from `from` up to `to` write after the number `n`; BEYOND for all that is as large or larger.

@@ -63,10 +63,10 @@ returns-3 c =
     wrong-state l (sym (c .before .lengths-wrong .ensures) ∙ c .if6 .taken)
 
 cast-put-header : tie.Need-cast-put-header
-cast-put-header c = omega (arith, sized (c .before) .bytes)
+cast-put-header c = omega (arith, sized (c .before) .bytes, sized (c .before) .few)
 
 cast-put-header-2 : tie.Need-cast-put-header-2
-cast-put-header-2 c = search needs
+cast-put-header-2 c = omega (arith, sized (c .before) .bytes, sized (c .before) .few)
 
 put-header-requires : tie.Need-put-header-requires
 put-header-requires c κs = search needs

@@ -15,7 +15,7 @@ use Rattle.ledger.specs.Bytes.{weighed, le, flat, tab, field}
 use Rattle.ledger.specs.Commit.{passes, write, afterPage, commitBatch}
 use Rattle.planner.specs.Plan.{planBatch}
 use Rattle.tonnage.specs.Services.{readText}
-use Rattle.claims.specs.Ascii.{ascii}
+use Rattle.lists.specs.Ascii.{ascii}
 use Rattle.claims.specs.Cases.{fresh, number, batchOf, planOf, commitOf, clash, reader, failing, counted}
 use Rattle.claims.proofs.Outcomes.{apart}
 use Rattle.claims.proofs.Table as table

@@ -19,7 +19,7 @@ use Rattle.orders.specs.Admission.{admit}
 use Rattle.orders.specs.Arrange.{lowest as lowestTicket, without, arrange, byTicket, free, schedule}
 use Rattle.lists.specs.Members.{upto}
 use Rattle.planner.specs.Plan.{reader as readerOf, before, sequence, kept, verdict, order, gathered, plans, planBatch}
-use Rattle.claims.specs.Ascii.{ascii}
+use Rattle.lists.specs.Ascii.{ascii}
 use Rattle.claims.specs.Cases.{text, plan, commit, written, Holds, Hold, table, number, batchOf, counted, clash, reader, failing}
 
 -- every case that document 01 marks P holds of the definitions that the promises cite

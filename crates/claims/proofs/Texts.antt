@@ -18,7 +18,7 @@ use Rattle.tonnage.specs.Grammar.{Tonnage}
 use Rattle.tonnage.specs.Services.{in64, readText, Written, writeText}
 use Rattle.tonnage.proofs.RoundTrip.{accepted-written, written-accepted}
 use Rattle.tonnage.proofs.Sentence.{grammar-form}
-use Rattle.claims.specs.Ascii.{ascii}
+use Rattle.lists.specs.Ascii.{ascii}
 use Rattle.claims.proofs.Outcomes.{apart, value, number, place}
 use Rattle.claims.proofs.Table.{text-no-comma}
 

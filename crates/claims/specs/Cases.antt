@@ -18,7 +18,7 @@ use Rattle.ledger.specs.State.{State, stateOf, Entry, entry}
 use Rattle.ledger.specs.Commit.{Commits, commitBatch}
 use Rattle.planner.specs.Plan.{Plans, planBatch}
 use Rattle.ledger.specs.Services.{readPage, writePage}
-use Rattle.claims.specs.Ascii.{ascii}
+use Rattle.lists.specs.Ascii.{ascii}
 
 -- a case of the document
 pub data Case : Type 0 where

@@ -1,4 +1,3 @@
-pub mod Ascii
 pub mod Cases
 pub mod Rules
 pub mod Serial

@@ -1,3 +1,4 @@
+pub mod Ascii
 pub mod Choice
 pub mod Members
 pub mod Search

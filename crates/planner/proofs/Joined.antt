@@ -61,7 +61,7 @@ any-perm p xs ys q =
     (λ t. let w = any-out p xs t in any-in p ys (perm-in q (w .1)) (w .2))
     (λ t. let w = any-out p ys t in any-in p xs (perm-in (Permᴰ·symm q) (w .1)) (w .2))
 
-admit-shorter : (before : ℕ → ℕ → Bool) (kept is : List ℕ) → length (admit before kept is) ≤ length kept + length is
+pub admit-shorter : (before : ℕ → ℕ → Bool) (kept is : List ℕ) → length (admit before kept is) ≤ length kept + length is
 unfolding admit
 admit-shorter before kept [] = omega arith
 admit-shorter before kept (i ∷ is) =

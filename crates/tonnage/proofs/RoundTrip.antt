@@ -2,16 +2,18 @@
 use mathlib.Core.Path.{_≡_, refl, sym, ap, _∙_}
 use mathlib.Core.Bool.{Bool, true, false, false≢true}
 use mathlib.Core.Logic.{_↔_}
-use mathlib.Core.List.{List}
+use mathlib.Core.List.{List, _++_}
 use Prim.Native.Nat.{ℕ, zero, suc, _≤_, _<_, _^_}
 use native.Mathlib.Omega.{arith}
-use lib.ListN.{length}
+use lib.ListN.{length, drop}
 use lib.IntN.{ℤ, pos, negsuc, natAbs}
-use borrow.Author.Tests.{ltb-true}
+use mir.Syntax.{w64}
+use mir.Val.{SFits}
+use borrow.Author.Tests.{ltb-true, lt-ltb, le-leb}
 use Rattle.lists.specs.Choice.{pick}
 use Rattle.refusals.specs.Outcome.{gives, refuses}
 use Rattle.tonnage.specs.Text.{form, figure, signed, follow, digits, widthIn, width, below0, tonnes, rest, textOf}
-use Rattle.tonnage.specs.Services.{in64, readText}
+use Rattle.tonnage.specs.Services.{in64, readText, writeText}
 use Rattle.tonnage.proofs.Runs.{length-digits, width-some, narrow}
 use Rattle.tonnage.proofs.Answers.{length-text, sign-length}
 use Rattle.tonnage.proofs.Decimal.{run-digits, run-width, run-tonnes, digits-each, digits-three, digits-follow, rest-follow, first-lean}
@@ -107,6 +109,20 @@ pub longest : (z : ℤ) → in64 z ≡ true → length (textOf z) ≤ 21
 longest z h =
     let t : tonnes z < 10 ^ 16 = omega (arith, size-64 z h) in
     omega (arith, length-text z, sign-length z, narrow 15 (tonnes z) t)
+
+-- every figure of the program is one
+pub within-64 : (z : ℤ) → SFits w64 z → in64 z ≡ true
+within-64 (pos n) f = lt-ltb n (2 ^ 63) (omega (arith, f .sfits))
+within-64 (negsuc n) f = lt-ltb n (2 ^ 63) (omega (arith, f .sfits))
+
+pub longest-fits : (z : ℤ) → SFits w64 z → length (textOf z) ≤ 21
+longest-fits z f = longest z (within-64 z f)
+
+-- where the text fits, it is written
+pub written : (z : ℤ) (buffer : List ℕ) → length (textOf z) ≤ length buffer
+    → writeText buffer z ≡ record { answer = gives (length (textOf z)); text = textOf z ++ drop (length (textOf z)) buffer }
+unfolding writeText
+written z buffer h = rw (le-leb (length (textOf z)) (length buffer) h)
 
 pub lowest-has-21 : length (textOf (negsuc 9223372036854775807)) ≡ 21
 unfolding textOf digits width widthIn

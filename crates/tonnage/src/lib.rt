@@ -13,7 +13,7 @@ pub enum Writing {
     Unwritten { refusal: Refusal },
 }
 
-mod digits;
+pub mod digits;
 mod figure;
 mod form;
 pub mod text;

@@ -1,0 +1,78 @@
+#!/usr/bin/env python3
+"""tools/pages.py NAME > FILE: writes the standard input of a run of the listing program, from document 01's page layout.
+
+NAME is listing, refused, empty, too_long or correction. The expected listings stand in crates/*/stdout.
+"""
+import sys
+
+ABSENT = (0, 65535)
+
+
+def page(ticket, reads=(), puts=()):
+    """A page: reads are (key, (block, place)), puts are (key, kilograms)."""
+    head = bytes([0x54, len(reads), len(puts), 0]) + ticket.to_bytes(4, "little")
+    body = b"".join(k.to_bytes(2, "little") + p.to_bytes(2, "little") + b.to_bytes(4, "little") for k, (b, p) in reads)
+    body += b"".join(k.to_bytes(2, "little") + bytes(2) + v.to_bytes(8, "little", signed=True) for k, v in puts)
+    front = (head + body).ljust(508, b"\0")
+    return front + sum((i + 1) * x for i, x in enumerate(front)).to_bytes(4, "little")
+
+
+def listing():
+    """The five pages of document 01's example."""
+    return [
+        page(10, puts=[(5, 68400)]),
+        page(20, reads=[(5, ABSENT)], puts=[(6, 100)]),
+        page(30, reads=[(6, ABSENT)], puts=[(7, -50)]),
+        page(40, reads=[(7, ABSENT)], puts=[(5, 1)]),
+        page(50, reads=[(8, (0, 0))]),
+    ]
+
+
+def refused():
+    """The same five pages with one bit of page 3 changed: its check differs, so 2 at page 3."""
+    pages = listing()
+    third = bytearray(pages[3])
+    third[20] ^= 1
+    pages[3] = bytes(third)
+    return pages
+
+
+def too_long():
+    """64 pages and one byte more: 11 at place 0, whatever the pages are."""
+    return [bytes(32768), bytes(1)]
+
+
+def correction():
+    """The customer's case: a correction shares its batch with settlements that had read the old weight.
+
+    Key 4 is the weight of the lot, key 9 the furnace charge, key 3 the lot's settlement. Every key is absent at the
+    start, so the old weight is the absent version of key 4.
+
+    Page 0, ticket 70, corrects: it puts 68,400 t on key 4 and reads nothing.
+    Page 1, ticket 60, settles: it reads key 4 as absent and puts 684,000 t on key 3.
+    Page 2, ticket 80, blends: it reads keys 3 and 4 as absent and puts 5,000 t on key 9 and 1,000 t on key 4.
+    Page 3, ticket 90, settles late: it reads key 4 at block 0 place 7, which was never its version.
+
+    By document 01's rules, by hand:
+    Rule 1: every read of pages 0, 1 and 2 names the absent version, so they are current; page 3 is stale.
+    Rule 2: page 1 reads 4, which pages 0 and 2 write: 1 before 0, 1 before 2. Page 2 reads 3, which page 1 writes:
+            2 before 1. Page 2 reads 4, which page 0 writes: 2 before 0. Its own write of 4 makes no demand on itself.
+    Rule 3: rising tickets are 60 (page 1), 70 (page 0), 80 (page 2). 60 is kept. 70: the demand 1 before 0 alone makes
+            no cycle, kept: the correction is not thrown out. 80: 1 before 2 and 2 before 1 are a cycle, verdict 2.
+    Rule 4: of pages 0 and 1, page 0 has to wait for page 1, so page 1 has place 0 and page 0 has place 1.
+    Commit under n 1: page 1 puts 684000 kg at (1, 0) on key 3, page 0 puts 68400 kg at (1, 1) on key 4.
+    """
+    return [
+        page(70, puts=[(4, 68400)]),
+        page(60, reads=[(4, ABSENT)], puts=[(3, 684000)]),
+        page(80, reads=[(3, ABSENT), (4, ABSENT)], puts=[(4, 1000), (9, 5000)]),
+        page(90, reads=[(4, (0, 7))]),
+    ]
+
+
+RUNS = {"listing": listing, "refused": refused, "empty": list, "too_long": too_long, "correction": correction}
+
+if __name__ == "__main__":
+    if len(sys.argv) != 2 or sys.argv[1] not in RUNS:
+        sys.exit(__doc__)
+    sys.stdout.buffer.write(b"".join(RUNS[sys.argv[1]]()))

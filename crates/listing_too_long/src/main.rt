@@ -4,5 +4,5 @@ fn main() {
     let mut blocks = [0u32; 1024];
     let mut places = [65535u16; 1024];
     let mut values = [0i64; 1024];
-    session::run(&mut page, &mut blocks, &mut places, &mut values);
+    lister::run(&mut page, &mut blocks, &mut places, &mut values);
 }

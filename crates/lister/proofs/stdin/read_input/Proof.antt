@@ -3,8 +3,8 @@ use Prim.Native.Nat.{_-_, _≤_}
 use mathlib.Core.Path.{_≡_}
 use lib.ListN.{length}
 use borrow.Author.Needs.{needs}
-use Rattle.session.proofs.stdin.read_input.Statement.{statement}
-use Rattle.session.proofs.stdin.read_input.Tie as tie
+use Rattle.lister.proofs.stdin.read_input.Statement.{statement}
+use Rattle.lister.proofs.stdin.read_input.Tie as tie
 
 abbrev Inv-loop : tie.InvT-loop
 Inv-loop buffer₀ at₀ buffer at = (length buffer ≡ length buffer₀) × (at ≤ length buffer)

@@ -6,7 +6,7 @@ ghost use mathlib.Core.Path.{_≡_};
 ghost use lib.ListN.{length};
 ghost use Rattle.ledger.specs.State.{stateOf};
 ghost use Rattle.report.specs.Listing.{filled, refused};
-ghost use Rattle.session.specs.Session.{answer};
+ghost use Rattle.lister.specs.Written.{answer};
 
 // The number that the batch is planned and committed under.
 const FIRST: u32 = 1;

@@ -5,9 +5,9 @@ use native.Mathlib.Omega.{arith}
 use lib.ListN.{length}
 use lib.Seq.{length-take-le}
 use borrow.Author.Needs.{needs}
-use Rattle.session.specs.Session.{counted}
-use Rattle.session.proofs.run.Statement.{statement}
-use Rattle.session.proofs.run.Tie as tie
+use Rattle.lister.specs.Written.{counted}
+use Rattle.lister.proofs.run.Statement.{statement}
+use Rattle.lister.proofs.run.Tie as tie
 
 -- what is read lies within the buffer
 within : (c : tie.After-count) → c .count .given .0 .0 ≤ length (c .before .before .before .before .read-input .last .0)

@@ -2,9 +2,9 @@
 use denote.Ref.{now}
 use borrow.Author.Needs.{needs}
 use Rattle.report.specs.Listing.{refused}
-use Rattle.session.proofs.Told.{filled-long}
-use Rattle.session.proofs.list.refuse_long.Statement.{statement}
-use Rattle.session.proofs.list.refuse_long.Tie as tie
+use Rattle.lister.proofs.Told.{filled-long}
+use Rattle.lister.proofs.list.refuse_long.Statement.{statement}
+use Rattle.lister.proofs.list.refuse_long.Tie as tie
 
 fill-refusal-requires : tie.Need-fill-refusal-requires
 fill-refusal-requires c κs = search needs

@@ -1,7 +1,7 @@
 // Standard input, read to its end.
 ghost use Prim.Native.Nat.{_≤_};
 ghost use lib.ListN.{length};
-ghost use Rattle.session.specs.Session.{counted};
+ghost use Rattle.lister.specs.Written.{counted};
 
 // What is read: so many bytes, more than the buffer holds, or a read that failed.
 pub enum Input {

@@ -7,8 +7,8 @@ use Rattle.ledger.specs.State.{State}
 use Rattle.ledger.specs.Commit.{commitBatch}
 use Rattle.planner.specs.Plan.{Plans, planBatch}
 use Rattle.report.specs.Listing.{listed, refused}
-use Rattle.session.specs.declared.stdin.Input.{Input}
-use Rattle.session.specs.declared.stdin.Input.the-variants.{Bytes, TooLong, Unread}
+use Rattle.lister.specs.declared.stdin.Input.{Input}
+use Rattle.lister.specs.declared.stdin.Input.the-variants.{Bytes, TooLong, Unread}
 
 -- "n 1"
 abbrev pub first : ℕ

@@ -12,7 +12,7 @@ use Rattle.ledger.specs.Commit.{Commits, committed, commitBatch}
 use Rattle.planner.specs.declared.Planned.the-variants.{Kept, Unplanned}
 use Rattle.planner.specs.Plan.{Plans, planned}
 use Rattle.report.specs.Listing.{filled, listed, refused}
-use Rattle.session.specs.Session.{first, written}
+use Rattle.lister.specs.Written.{first, written}
 
 -- the state that a commit leaves
 state-left : (r : Committed) (s : State) (vs : List ℕ) (x : Commits) → committed r s vs ≡ x → s ≡ x .state

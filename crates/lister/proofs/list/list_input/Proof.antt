@@ -11,10 +11,10 @@ use Rattle.ledger.specs.State.{State, stateOf}
 use Rattle.planner.specs.declared.Planned.{Planned}
 use Rattle.planner.specs.Plan.{planned, planBatch}
 use Rattle.planner.proofs.Few.{plan-room}
-use Rattle.session.specs.Session.{first, answer}
-use Rattle.session.proofs.Told.{told-refused, told-listed, filled-long}
-use Rattle.session.proofs.list.list_input.Statement.{statement}
-use Rattle.session.proofs.list.list_input.Tie as tie
+use Rattle.lister.specs.Written.{first, answer}
+use Rattle.lister.proofs.Told.{told-refused, told-listed, filled-long}
+use Rattle.lister.proofs.list.list_input.Statement.{statement}
+use Rattle.lister.proofs.list.list_input.Tie as tie
 
 -- from plan's answer: the beginning, and the state there
 abbrev start : tie.After-plan-batch → tie.Start

@@ -1,4 +1,5 @@
 pub mod Numbers
+pub mod Joined
 pub mod Signed
 pub mod Turns
 pub mod OnPage

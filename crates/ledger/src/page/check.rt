@@ -147,7 +147,7 @@ pub fn check_page(page: &[u8]) -> PageCheck
     let reads = held::reads(page);
     let writes = held::writes(page);
     let spare = 8 + 8 * reads + 12 * writes;
-    if bytes::first_set(page, spare, CHECK) < CHECK {
+    if bytes::any_set(page, spare, CHECK) {
         return PageCheck::Bad {
             number: refusals::SPARE_BYTE,
         };

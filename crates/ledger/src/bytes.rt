@@ -6,7 +6,7 @@ ghost use lib.Seq.{sets};
 ghost use mir.Syntax.{w64};
 ghost use mir.Val.{toZ, ofZ};
 ghost use Rattle.lists.specs.Search.{someIn};
-ghost use Rattle.ledger.specs.Bytes.{field, weighed, set?, le};
+ghost use Rattle.ledger.specs.Bytes.{field, set?, le};
 
 // The number in the two bytes of `p` from `at` on.
 pub fn le2(p: &[u8], at: usize) -> u16
@@ -30,20 +30,6 @@ pub fn le8(p: &[u8], at: usize) -> u64
     ensures { λ r. ⌜ r ≡ field (now (p .entry)) at 8 ⌝ }
 {
     (le4(p, at) as u64) + (le4(p, at + 4) as u64) * 4294967296
-}
-
-// The sum over the first `n` bytes of (offset + 1) times the byte.
-pub fn weigh(p: &[u8], n: usize) -> u32
-    requires { ⌜ (n ≤ length (now p)) × (n ≤ 508) ⌝ }
-    ensures { λ r. ⌜ r ≡ weighed (now (p .entry)) n ⌝ }
-{
-    let mut sum: u32 = 0;
-    let mut i = 0;
-    while i < n {
-        sum += (i as u32 + 1) * (p[i] as u32);
-        i += 1;
-    }
-    sum
 }
 
 // Whether a byte from `from` up to, not including, `to` is not zero: all are joined, and no byte ends the loop, so it is vector code.

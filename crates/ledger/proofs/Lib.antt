@@ -1,4 +1,6 @@
 pub mod Numbers
+pub mod Joined
+pub mod Columns
 pub mod Signed
 pub mod Turns
 pub mod OnPage

@@ -1,4 +1,5 @@
 pub mod Bytes
+pub mod Columns
 pub mod Version
 pub mod Tx
 pub mod Page

@@ -5,8 +5,8 @@ ghost use lib.ListN.{length};
 ghost use lib.Seq.{sets};
 ghost use mir.Syntax.{w64};
 ghost use mir.Val.{toZ, ofZ};
-ghost use Rattle.lists.specs.Search.{firstIn};
-ghost use Rattle.ledger.specs.Bytes.{field, weighed, set?, le};
+ghost use Rattle.lists.specs.Search.{someIn};
+ghost use Rattle.ledger.specs.Bytes.{field, set?, le};
 
 // The number in the two bytes of `p` from `at` on.
 pub fn le2(p: &[u8], at: usize) -> u16
@@ -32,33 +32,18 @@ pub fn le8(p: &[u8], at: usize) -> u64
     (le4(p, at) as u64) + (le4(p, at + 4) as u64) * 4294967296
 }
 
-// The sum over the first `n` bytes of (offset + 1) times the byte.
-pub fn weigh(p: &[u8], n: usize) -> u32
-    requires { ⌜ (n ≤ length (now p)) × (n ≤ 508) ⌝ }
-    ensures { λ r. ⌜ r ≡ weighed (now (p .entry)) n ⌝ }
-{
-    let mut sum: u32 = 0;
-    let mut i = 0;
-    while i < n {
-        sum += (i as u32 + 1) * (p[i] as u32);
-        i += 1;
-    }
-    sum
-}
-
-// The first offset from `from` up to, not including, `to` whose byte is not zero; `to` where all are.
-pub fn first_set(p: &[u8], from: usize, to: usize) -> usize
+// Whether a byte from `from` up to, not including, `to` is not zero: all are joined, and no byte ends the loop, so it is vector code.
+pub fn any_set(p: &[u8], from: usize, to: usize) -> bool
     requires { ⌜ (from ≤ to) × (to ≤ length (now p)) ⌝ }
-    ensures { λ r. ⌜ r ≡ firstIn (set? (now (p .entry))) from to ⌝ }
+    ensures { λ r. ⌜ r ≡ someIn (set? (now (p .entry))) from to ⌝ }
 {
+    let mut all: u8 = 0;
     let mut i = from;
     while i < to {
-        if p[i] != 0 {
-            return i;
-        }
+        all = all | p[i];
         i += 1;
     }
-    to
+    all != 0
 }
 
 // Writes `v` in the `n` bytes from `at` on.

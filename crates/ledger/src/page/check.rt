@@ -1,9 +1,10 @@
-// The check of a page, on the bytes where they lie: each search gives where it stopped.
+// The check of a page, on the bytes where they lie: each search of the entries gives where it stopped.
 use crate::PageCheck;
 use crate::bytes;
 use crate::entry;
 use crate::page::counts;
 use crate::page::held;
+use crate::page::weight;
 ghost use mathlib.Core.Path.{_≡_};
 ghost use lib.ListN.{length};
 ghost use Rattle.lists.specs.Search.{firstIn};
@@ -98,7 +99,7 @@ fn head_fault(page: &[u8]) -> u32
     if page.len() != PAGE {
         return refusals::PAGE_LENGTH;
     }
-    if bytes::weigh(page, CHECK) != bytes::le4(page, CHECK) {
+    if weight::weigh(page) != bytes::le4(page, CHECK) {
         return refusals::CHECK;
     }
     if page[0] != MARK {
@@ -147,7 +148,7 @@ pub fn check_page(page: &[u8]) -> PageCheck
     let reads = held::reads(page);
     let writes = held::writes(page);
     let spare = 8 + 8 * reads + 12 * writes;
-    if bytes::first_set(page, spare, CHECK) < CHECK {
+    if bytes::any_set(page, spare, CHECK) {
         return PageCheck::Bad {
             number: refusals::SPARE_BYTE,
         };

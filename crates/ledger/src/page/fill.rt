@@ -5,6 +5,7 @@ use crate::Write;
 use crate::bytes;
 use crate::page::check;
 use crate::page::counts;
+use crate::page::weight;
 ghost use mathlib.Core.Path.{_≡_};
 ghost use Prim.Native.Nat.{_+_, _*_, _≤_};
 ghost use lib.ListN.{length};
@@ -84,6 +85,6 @@ pub fn fill(p: &mut [u8], t: Transaction)
     put_reads(p, 8, reads, r);
     put_writes(p, 8 + 8 * r, writes, w);
     bytes::put(p, 8 + size, counts::ROOM - size, 0);
-    let sum = bytes::weigh(p, check::CHECK);
+    let sum = weight::weigh(p);
     bytes::put(p, check::CHECK, 4, sum as u64);
 }

@@ -4,8 +4,7 @@ use Prim.Native.Nat.{_+_, _*_}
 use native.Mathlib.Omega.{arith}
 use borrow.Author.Needs.{needs}
 use denote.Ref.{now}
-use Rattle.lists.specs.Search.{firstIn, someIn}
-use Rattle.lists.proofs.Searches.{some, none}
+use Rattle.lists.specs.Search.{someIn}
 use Rattle.ledger.specs.Bytes.{set?}
 use Rattle.ledger.specs.Page.{fault, headFault, entryFault, pageFault, pageTx, Counted}
 use Rattle.ledger.proofs.OnPage.{count-reads, count-writes}
@@ -29,14 +28,14 @@ spare c =
     let p = now (c .before .before .before .before .before .before .before .args .page) in
     omega (arith, c .before .reads .ensures, c .writes .ensures, count-reads p, count-writes p)
 
-searched : (c : tie.After-first-set)
+searched : (c : tie.After-any-set)
     → let p = now (c .before .before .before .before .before .before .before .before .args .page) in
-    c .first-set .result ≡ firstIn (set? p) (spareFrom p) 508
+    c .any-set .result ≡ someIn (set? p) (spareFrom p) 508
 searched c =
     let p = now (c .before .before .before .before .before .before .before .before .args .page) in
-    c .first-set .ensures ∙ ap (λ n. firstIn (set? p) n 508) (spare (c .before))
+    c .any-set .ensures ∙ ap (λ n. someIn (set? p) n 508) (spare (c .before))
 
-last : (c : tie.After-first-set)
+last : (c : tie.After-any-set)
     → let p = now (c .before .before .before .before .before .before .before .before .args .page) in
     pageFault p ≡ fault 10 (someIn (set? p) (spareFrom p) 508)
 last c = let e = c .before .before .before in by-spare _ (no-head (e .before .before)) (no-entry e)
@@ -75,19 +74,19 @@ mul-spare-2 c = omega (arith, spare c, counted (c .before .before .before .befor
 add-spare-2 : tie.Need-add-spare-2
 add-spare-2 c = omega (arith, spare c, counted (c .before .before .before .before))
 
-first-set-requires : tie.Need-first-set-requires
-first-set-requires c κs = omega (arith, spare c, counted (c .before .before .before .before))
+any-set-requires : tie.Need-any-set-requires
+any-set-requires c κs = omega (arith, spare c, counted (c .before .before .before .before))
 
 returns-3 : tie.Need-returns-3
 returns-3 c =
     check-refused _ 10 (λ e. omega arith)
-    (sym (last (c .before) ∙ ap (fault 10) (some _ _ _ _ (searched (c .before)) (c .if3 .taken))))
+    (sym (last (c .before) ∙ ap (fault 10) (sym (searched (c .before)) ∙ c .if3 .taken)))
 
 returns-4 : tie.Need-returns-4
 returns-4 c =
     let f = c .before in
     check-taken _ _ _ (f .before .before .reads .ensures) (f .before .writes .ensures)
-    (last f ∙ ap (fault 10) (none _ _ _ _ (searched f) (c .if3 .left)))
+    (last f ∙ ap (fault 10) (sym (searched f) ∙ c .if3 .left))
 
 pub check-page-spec : {M : Type 1} → statement M
 check-page-spec =
@@ -103,6 +102,6 @@ check-page-spec =
     add-spare
     mul-spare-2
     add-spare-2
-    first-set-requires
+    any-set-requires
     returns-3
     returns-4)

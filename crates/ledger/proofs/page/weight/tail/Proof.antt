@@ -1,20 +1,20 @@
--- `weigh`: the sum so far, and a bound on it that keeps it within 32 bits.
-use native.Mathlib.Omega.{arith}
-use borrow.Author.Needs.{needs}
+-- `tail`: the sum so far, and a bound on it that keeps it within 32 bits.
 use mathlib.Core.Path.{_≡_, ap, _∙_}
+use Prim.Native.Nat.{_≤_, _+_, _*_, _-_}
+use borrow.Author.Needs.{needs}
 use native.Mathlib.Nat.{le-antisymm}
+use native.Mathlib.Omega.{arith}
 use lib.ListN.{getD}
-use Prim.Native.Nat.{_+_, _*_, _-_, _≤_}
 use Rattle.ledger.specs.Bytes.{weighed}
 use Rattle.ledger.proofs.Numbers.{term-le, weighed-next}
-use Rattle.ledger.proofs.bytes.weigh.Statement.{statement}
-use Rattle.ledger.proofs.bytes.weigh.Tie as tie
+use Rattle.ledger.proofs.page.weight.tail.Statement.{statement}
+use Rattle.ledger.proofs.page.weight.tail.Tie as tie
 
 abbrev Inv-loop : tie.InvT-loop
-Inv-loop p n sum₀ i₀ sum i = (i ≤ n) × (sum ≡ weighed p i) × (sum ≤ 129540 * i)
+Inv-loop p sum₀ i₀ sum i = (480 ≤ i) × (i ≤ 508) × (weighed p 480 + sum ≡ weighed p i) × (sum ≤ 129540 * i)
 
 abbrev μ-loop : tie.MeasureT-loop
-μ-loop p n sum₀ i₀ sum i = n - i
+μ-loop p sum₀ i₀ sum i = 508 - i
 
 -- the turn's term is small
 term : (c : tie.After-shared-slice-known Inv-loop μ-loop)
@@ -22,7 +22,6 @@ term : (c : tie.After-shared-slice-known Inv-loop μ-loop)
 term c = term-le (omega arith) (omega (arith, c .shared-slice-known .given (c .before .before .loop .i)))
 
 loop-holds : tie.Need-loop-holds Inv-loop μ-loop
-unfolding weighed
 loop-holds c = search needs
 
 cast-sum : tie.Need-cast-sum Inv-loop μ-loop
@@ -50,15 +49,18 @@ loop-less : tie.Need-loop-less Inv-loop μ-loop
 loop-less c = search needs
 
 loop-again : tie.Need-loop-again Inv-loop μ-loop
-loop-again c = (search needs, omega (arith, weighed-next (c .before .before .before .args .p .now) (c .before .before .loop .i)), omega (arith, term c))
+loop-again c = (
+  search needs,
+  search needs,
+  omega (arith, weighed-next (c .before .before .before .args .p .now) (c .before .before .loop .i)),
+  omega (arith, term c),
+)
 
 returns : tie.Need-returns Inv-loop μ-loop
-returns c =
-    let h = c .before in
-    h .loop .inv .1 ∙ ap (weighed _) (le-antisymm (h .loop .inv .0) (c .loop-test .left))
+returns c = let h = c .before in h .loop .inv .2 ∙ ap (weighed _) (le-antisymm (h .loop .inv .1) (c .loop-test .left))
 
-pub weigh-spec : {M : Type 1} → statement M
-weigh-spec =
+pub tail-spec : {M : Type 1} → statement M
+tail-spec =
     tie.close
     (tie.spec
     Inv-loop

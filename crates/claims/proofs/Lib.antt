@@ -7,6 +7,7 @@ pub mod Pages
 pub mod Planning
 pub mod Refusals
 pub mod Running
+pub mod Shown
 pub mod Table
 pub mod Texts
 pub mod Unique

@@ -1,6 +1,7 @@
 pub mod Demand3
 pub mod Each
 pub mod Empty
+pub mod Opened
 pub mod OutBatch
 pub mod Outcomes
 pub mod Pages
@@ -11,3 +12,4 @@ pub mod Shown
 pub mod Table
 pub mod Texts
 pub mod Unique
+pub mod Worked

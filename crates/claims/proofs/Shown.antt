@@ -1,27 +1,29 @@
 -- What the listing program writes, for every input. Assumes nothing.
 use Prim.Native.Nat.{ℕ, _*_, _≤_, _<_}
 use native.Mathlib.Omega.{arith}
-use mathlib.Core.Bool.{Bool, true, false, not, _&&_}
-use mathlib.Core.List.{List, _++_}
+use mathlib.Core.Bool.{true, false}
+use mathlib.Core.List.{List}
 use mathlib.Core.Path.{_≡_, refl, sym, ap, _∙_}
-use lib.ListN.{length, take, drop, replicate, length-append, length-replicate}
-use lib.Dec.{eqb, ltb, leb}
+use lib.ListN.{length, take, replicate, length-append, length-replicate}
+use lib.Dec.{ltb}
 use borrow.Author.Tests.{lt-ltb, le-leb, eq-eqb}
 use Rattle.refusals.specs.Outcome.{Outcome, gives, refuses}
 use Rattle.refusals.specs.Fault.{Fault, clear, fault}
-use Rattle.ledger.specs.Bytes.{tab}
 use Rattle.ledger.specs.State.{State, Level, keys, wrongLengths}
 use Rattle.ledger.specs.Gate.{pages, txAt, txs, gateFault}
 use Rattle.ledger.specs.Commit.{Commits, commits, commitBatch}
 use Rattle.ledger.proofs.OnPage.{length-tab}
 use Rattle.ledger.proofs.Gated.{Through, gate-open}
 use Rattle.ledger.proofs.Commits.{Kept, kept-self, commit-kept}
-use Rattle.planner.specs.Plan.{Plans, sequence, verdict, order, gathered, plans, short, planBatch}
+use Rattle.planner.specs.Plan.{Plans, sequence, plans, short, planBatch}
 use Rattle.planner.proofs.Few.{plan-room}
 use Rattle.report.specs.Listing.{listing, refusal, together, listed, refused}
 use Rattle.lister.specs.Written.{first, written, answer}
+use Rattle.claims.specs.Serial.{Rules, run}
 use Rattle.claims.specs.Shown.{start, plan, settled, shown}
 use Rattle.claims.proofs.Outcomes.{apart, value}
+use Rattle.claims.proofs.Planning.{sequence-perm}
+use Rattle.claims.proofs.Demand3.{third}
 
 -- ---- a commit leaves lists as long as they were
 
@@ -44,6 +46,10 @@ good-lengths s t k l h j =
       lt-ltb 0 (length (t .blocks)) (omega (arith, k .blocks)),
       le-leb (length (t .blocks)) 1024 (omega (arith, k .blocks)),
     )
+
+-- the rule that makes the writes on its page, whatever it reads
+abbrev pub own : List ℕ → Rules
+own input i es = txAt input i .writes
 
 -- ---- what is lent goes together, whatever the input, the state and the lent lists are
 
@@ -70,13 +76,13 @@ module _ (text input : List ℕ) (s : State) (vs os out ps : List ℕ) (room : 6
 
   long-verdicts : pages input ≤ length (made .verdicts)
   unfolding plans
-  long-verdicts =
-      simp (length-append, length-tab) (omega arith)
+  long-verdicts = simp (length-append, length-tab) (omega arith)
 
   long-order : (k : ℕ) → made .answer ≡ gives k → k ≤ length (made .order)
   unfolding plans
   long-order k e = simp length-append (omega (arith, value e refl))
 
+  -- so what `listed` asks is always so
   fits : (k : ℕ) → p .answer ≡ gives k → together text input (p .verdicts) (p .order) k (after k) ≡ true
   fits k e =
       let o = opened k e in
@@ -101,9 +107,22 @@ module _ (text input : List ℕ) (s : State) (vs os out ps : List ℕ) (room : 6
   unfolding written refused
   none number place e = rw (e, written, le-leb 64 (length text) (omega arith))
 
+  -- where the gate lets the input through, the state that is listed is that of the kept pages' own writes, in the order of the schedule
+  whole-run :
+      (k : ℕ) → gateFault (short input vs os out) input s first ≡ clear → made .answer ≡ gives k → k ≤ length ps →
+      answer text input s vs os out ps ≡ listing first input (made .verdicts) (made .order) k (run (txAt input) first 0 (own input) s (take k (made .order)))
+  unfolding planBatch
+  whole-run k c a l =
+      let e : p ≡ made = rw (c, planBatch) in
+      let t = third input s first (sequence s (txAt input) (pages input)) vs os out k (sequence-perm s (txAt input) (pages input)) c a in
+      whole k (ap (λ (q : Plans). q .answer) e ∙ a)
+      ∙ ap (λ (q : Plans). listing first input (q .verdicts) (q .order) k (commitBatch (take (512 * k) (q .out)) s first ps .state)) e
+      ∙ ap (λ (q : Commits). listing first input (made .verdicts) (made .order) k (q .state)) (t .commits (own input) (λ i m. refl) ps l)
+
 -- ---- the program
 
-long : (n a : ℕ) → n ≤ length (replicate n a)
+-- a buffer is as long as it is made
+pub long : (n a : ℕ) → n ≤ length (replicate n a)
 long n a = rw (length-replicate n a) (omega arith)
 
 -- For every input the whole listing is written, or the refusal's line: nothing is ever left out or cut.
@@ -116,3 +135,16 @@ shown-all input = (
   whole (replicate 65536 0) input start (replicate 64 0) (replicate 64 0) (replicate 32768 0) (replicate 64 0) (long 65536 0),
   none (replicate 65536 0) input start (replicate 64 0) (replicate 64 0) (replicate 32768 0) (replicate 64 0) (long 65536 0),
 )
+
+-- where the gate lets the input through: what plan leaves, and the state after the writes of the kept pages
+abbrev pub clearPlan : List ℕ → Plans
+clearPlan input = plans input start (sequence start (txAt input) (pages input)) (replicate 64 0) (replicate 64 0) (replicate 32768 0)
+
+pub shown-run :
+    (input : List ℕ) (k : ℕ) → gateFault (short input (replicate 64 0) (replicate 64 0) (replicate 32768 0)) input start first ≡ clear →
+    clearPlan input .answer ≡ gives k → k ≤ 64 →
+    shown input ≡ listing first input (clearPlan input .verdicts) (clearPlan input .order) k (run (txAt input) first 0 (own input) start (take k (clearPlan input .order)))
+unfolding shown
+shown-run input k c a h =
+    whole-run (replicate 65536 0) input start (replicate 64 0) (replicate 64 0) (replicate 32768 0) (replicate 64 0) (long 65536 0) k c a
+    (rw (length-replicate {A = ℕ} 64 0) h)

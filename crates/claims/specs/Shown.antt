@@ -3,6 +3,7 @@ use Prim.Native.Nat.{ℕ, _*_}
 use mathlib.Core.List.{List, [], _∷_}
 use lib.ListN.{take, replicate}
 use lib.IntN.{pos, negsuc}
+use Rattle.lists.specs.Ascii.{ascii}
 use Rattle.ledger.specs.Version.{at}
 use Rattle.ledger.specs.Tx.{Tx}
 use Rattle.ledger.specs.State.{State, stateOf}
@@ -46,3 +47,11 @@ correction =
     ∷ tx 80 (none 3 ∷ none 4 ∷ []) (put 4 1000 ∷ put 9 5000 ∷ [])
     ∷ tx 90 (record { key = 4; version = at 0 7 } ∷ []) []
     ∷ []
+
+-- "Whole output", of the five pages
+abbrev pub nineLines : List ℕ
+nineLines = ascii "block 1 pages 5 kept 3\n10 kept 2\n20 kept 1\n30 kept 0\n40 cycle -\n50 stale -\n5 1.2 68,400\n6 1.1 0,100\n7 1.0 -0,050\n"
+
+-- and of the letter's four, by hand
+abbrev pub letterLines : List ℕ
+letterLines = ascii "block 1 pages 4 kept 2\n70 kept 1\n60 kept 0\n80 cycle -\n90 stale -\n3 1.0 684,000\n4 1.1 68,400\n"

@@ -1,12 +1,15 @@
 pub mod Demand3
 pub mod Each
 pub mod Empty
+pub mod Opened
 pub mod OutBatch
 pub mod Outcomes
 pub mod Pages
 pub mod Planning
 pub mod Refusals
 pub mod Running
+pub mod Shown
 pub mod Table
 pub mod Texts
 pub mod Unique
+pub mod Worked

@@ -44,7 +44,7 @@ distinct-at (x ∷ is) d (suc i) (suc j) l h e = distinct-at is (rest x is d) i 
 -- ---- the gate
 
 -- where no index has a fault, there is none
-lowest-of : (number : ℕ → ℕ) (n : ℕ) → ((i : ℕ) → i < n → number i ≡ 0) → lowest number n ≡ clear
+pub lowest-of : (number : ℕ → ℕ) (n : ℕ) → ((i : ℕ) → i < n → number i ≡ 0) → lowest number n ≡ clear
 unfolding lowest
 lowest-of number n h = rw (none-at (λ j. not (eqb (number j) 0)) n (λ i l. rw (h i l)))
 
@@ -56,7 +56,7 @@ state-good short batch s n e =
     let b = else-none (at 12 (wrongLengths s)) _ (a .1) in
     (at-none 12 (wrongLengths s) (b .0), else-none (wrongEntries s n) _ (b .1) .0)
 
-gate-clear :
+pub gate-clear :
     (short : Bool) (batch : List ℕ) (s : State) (n : ℕ) →
     wrongBytes batch ≡ false → wrongLengths s ≡ false → wrongEntries s n ≡ clear → short ≡ false → pagesFault batch (keys s) ≡ clear →
     gateFault short batch s n ≡ clear

@@ -42,7 +42,7 @@ entry-same s k e z h = λ i. record {
   value = getD-set-same (s .values) k (e .value) (pos 0) (omega (arith, z .values)) i;
 }
 
-entry-other : (s : State) (j k : ℕ) (e : Entry) → (k ≡ j → ⊥) → entry (store s j e) k ≡ entry s k
+pub entry-other : (s : State) (j k : ℕ) (e : Entry) → (k ≡ j → ⊥) → entry (store s j e) k ≡ entry s k
 unfolding entry store
 entry-other s j k e h = λ i. record {
   version = record {

@@ -1,4 +1,5 @@
 pub mod Cases
 pub mod Rules
 pub mod Serial
+pub mod Shown
 pub mod Third

@@ -1,0 +1,151 @@
+-- The gate over absent keys lets the pages of good transactions through: by laws, so that no check of a page has to be computed. Assumes nothing.
+use Prim.Native.Nat.{ℕ, zero, suc, _+_, _*_, _^_, _≤_, _<_}
+use native.Mathlib.Omega.{arith}
+use mathlib.Core.Bool.{Bool, true, false, _&&_, _||_}
+use mathlib.Core.List.{List, [], _∷_, _++_}
+use mathlib.Core.Path.{_≡_, refl, ap, _∙_}
+use lib.ListN.{length, take, drop, replicate, length-append, length-replicate, getD-replicate}
+use lib.IntN.{pos}
+use lib.Seq.{take-at, drop-append-add}
+use lib.Signed.{mag}
+use lib.Dec.{T, eqb, ltb, eqb→eq, ltb→lt}
+use mir.Syntax.{w64}
+use mir.Val.{hbits}
+use borrow.Author.Tests.{le-ltb}
+use Rattle.refusals.specs.Fault.{Fault, clear, _orElse_}
+use Rattle.lists.specs.Choice.{pick}
+use Rattle.lists.specs.Members.{all}
+use Rattle.lists.proofs.Tests.{and-left, and-right}
+use Rattle.lists.proofs.Membership.{all-out, getD-in}
+use Rattle.ledger.specs.declared.Read.{Read}
+use Rattle.ledger.specs.declared.Write.{Write}
+use Rattle.ledger.specs.Tx.{Tx, noRead, noWrite, readOf, writeOf, ReadFits, WriteFits}
+use Rattle.ledger.specs.Page.{countFault, entryFault, pageFault, pageOf, pageAt}
+use Rattle.ledger.specs.State.{stateOf, gone, keys, entry, wrongEntry, wrongLengths}
+use Rattle.ledger.specs.Gate.{pages, txAt, lowest, again, beyond, pagesFault, gateFault}
+use Rattle.ledger.proofs.Gated.{wrongEntries, not-wrong}
+use Rattle.ledger.proofs.Back.{Fitting, good-back}
+use Rattle.ledger.proofs.Pages.{good-counted}
+use Rattle.planner.specs.Plan.{short}
+use Rattle.lister.specs.Written.{first}
+use Rattle.claims.specs.Cases.{batchOf}
+use Rattle.claims.specs.Shown.{start}
+use Rattle.claims.proofs.OutBatch.{lowest-of, gate-clear}
+use Rattle.claims.proofs.Shown.{long}
+
+-- ---- absent keys
+
+absent-at : (m k : ℕ) → k < m → entry (stateOf (replicate m 0) (replicate m 65535) (replicate m (pos 0))) k ≡ gone
+unfolding entry
+absent-at m k h = rw (getD-replicate {A = ℕ} m k 0 0 h, getD-replicate {A = ℕ} m k 65535 0 h, getD-replicate m k (pos 0) (pos 0) h)
+
+pub start-keys : keys start ≡ 1024
+unfolding start
+start-keys = length-replicate {A = ℕ} 1024 0
+
+pub start-absent : (k : ℕ) → k < 1024 → entry start k ≡ gone
+unfolding start
+start-absent k h = absent-at 1024 k h
+
+-- the gate finds no fault in them
+start-lengths : wrongLengths start ≡ false
+unfolding start
+start-lengths = refl
+
+start-entries : wrongEntries start first ≡ clear
+start-entries =
+    lowest-of (λ k. pick (wrongEntry first (entry start k)) 13 0) (keys start) (λ k h. rw (start-absent k (rw start-keys at h)))
+
+-- ---- the pages of good transactions
+
+-- a transaction within the ranges of its types and without a fault
+abbrev pub fitsRead : Read → Bool
+fitsRead r = ltb (r .key) (2 ^ 16) && ltb (r .version .place) (2 ^ 16) && ltb (r .version .block) (2 ^ 32)
+
+abbrev pub fitsWrite : Write → Bool
+fitsWrite w = ltb (w .key) (2 ^ 16) && ltb (w .kind) (2 ^ 16) && ltb (mag (w .value)) (2 ^ hbits w64)
+
+abbrev pub good : Tx → Bool
+good x =
+    ltb (x .ticket) (2 ^ 32)
+    && all fitsRead (x .reads)
+    && all fitsWrite (x .writes)
+    && eqb (countFault (length (x .reads)) (length (x .writes))) 0
+    && eqb (entryFault x) 0
+
+three : (a b c : Bool) → T (a && b && c) → T a × T b × T c
+three true true c t = (tt, tt, t)
+
+read-fits : (r : Read) → T (fitsRead r) → ReadFits r
+read-fits r t =
+    let u = three (ltb (r .key) (2 ^ 16)) (ltb (r .version .place) (2 ^ 16)) (ltb (r .version .block) (2 ^ 32)) t in
+    record { key = ltb→lt _ _ (u .0); place = ltb→lt _ _ (u .1); block = ltb→lt _ _ (u .2) }
+
+write-fits : (w : Write) → T (fitsWrite w) → WriteFits w
+write-fits w t =
+    let u = three (ltb (w .key) (2 ^ 16)) (ltb (w .kind) (2 ^ 16)) (ltb (mag (w .value)) (2 ^ hbits w64)) t in
+    record { key = ltb→lt _ _ (u .0); kind = ltb→lt _ _ (u .1); value = record { sfits = ltb→lt _ _ (u .2) } }
+
+good-page : (x : Tx) → T (good x) → pageFault (pageOf x) ≡ 0
+good-page x t =
+    let c = eqb (countFault (length (x .reads)) (length (x .writes))) 0 in
+    let u = three (ltb (x .ticket) (2 ^ 32) && all fitsRead (x .reads) && all fitsWrite (x .writes)) c (eqb (entryFault x) 0) t in
+    let v = three (ltb (x .ticket) (2 ^ 32)) (all fitsRead (x .reads)) (all fitsWrite (x .writes)) (u .0) in
+    let fits : Fitting x = record {
+      ticket = ltb→lt (x .ticket) (2 ^ 32) (v .0);
+      reads = λ i h. read-fits (readOf (x .reads) i) (all-out fitsRead (x .reads) (v .1) (getD-in (x .reads) i noRead h));
+      writes = λ i h. write-fits (writeOf (x .writes) i) (all-out fitsWrite (x .writes) (v .2) (getD-in (x .writes) i noWrite h));
+    } in
+    good-back x fits (eqb→eq _ _ (u .1)) (eqb→eq _ _ (u .2)) .0
+
+page-long : (x : Tx) → T (good x) → length (pageOf x) ≡ 512
+page-long x t = good-counted (pageOf x) (good-page x t) .whole
+
+-- as many bytes, and as many good pages
+batch-long : (xs : List Tx) → T (all good xs) → length (batchOf xs) ≡ length xs * 512
+unfolding batchOf
+batch-long [] t = refl
+batch-long (x ∷ xs) t =
+    let a = page-long x (and-left (good x) (all good xs) t) in
+    let b = batch-long xs (and-right (good x) (all good xs) t) in
+    length-append (pageOf x) (batchOf xs) ∙ omega arith
+
+pages-good : (xs : List Tx) → T (all good xs) → (i : ℕ) → i < length xs → pageFault (pageAt (batchOf xs) i) ≡ 0
+unfolding batchOf
+pages-good [] t i h = absurd (omega arith)
+pages-good (x ∷ xs) t zero h =
+    let g = and-left (good x) (all good xs) t in
+    ap pageFault (take-at (pageOf x) (batchOf xs) 512 (page-long x g)) ∙ good-page x g
+pages-good (x ∷ xs) t (suc i) h =
+    let e : suc i * 512 ≡ length (pageOf x) + i * 512 = omega (arith, page-long x (and-left (good x) (all good xs) t)) in
+    ap (λ k. pageFault (take 512 (drop k (pageOf x ++ batchOf xs)))) e
+    ∙ ap (λ l. pageFault (take 512 l)) (drop-append-add (pageOf x) (batchOf xs) (i * 512))
+    ∙ pages-good xs (and-right (good x) (all good xs) t) i (omega arith)
+
+-- ---- the gate lets them through
+
+-- what the gate looks for after the faults of each page: 15 and 16
+abbrev pub later : List ℕ → Fault
+later input = lowest (λ i. pick (again input i) 15 0) (pages input) orElse lowest (λ i. pick (beyond 1024 (txAt input i)) 16 0) (pages input)
+
+-- what it finds in an input of the program
+abbrev pub shut : List ℕ → Fault
+shut input = gateFault (short input (replicate 64 0) (replicate 64 0) (replicate 32768 0)) input start first
+
+not-short : (m v o u : ℕ) → m ≤ 64 → 64 ≤ v → 64 ≤ o → 32768 ≤ u → (ltb v m || ltb o m || ltb u (512 * m)) ≡ false
+not-short m v o u h a b c = rw (le-ltb v m (omega arith), le-ltb o m (omega arith), le-ltb u (512 * m) (omega arith))
+
+pages-clear : (input : List ℕ) → ((i : ℕ) → i < pages input → pageFault (pageAt input i) ≡ 0) → later input ≡ clear → pagesFault input 1024 ≡ clear
+unfolding pagesFault
+pages-clear input f g = rw (lowest-of (λ i. pageFault (pageAt input i)) (pages input) f, g)
+
+pub open-gate : (xs : List Tx) → T (all good xs) → length xs ≤ 64 → later (batchOf xs) ≡ clear → shut (batchOf xs) ≡ clear
+open-gate xs t few e =
+    let l : length (batchOf xs) ≡ length xs * 512 = batch-long xs t in
+    let p : pages (batchOf xs) ≡ length xs = omega arith in
+    gate-clear (short (batchOf xs) (replicate 64 0) (replicate 64 0) (replicate 32768 0)) (batchOf xs) start first
+    (not-wrong (batchOf xs) (omega arith) (omega arith))
+    start-lengths
+    start-entries
+    (not-short (pages (batchOf xs)) _ _ _ (omega arith) (long 64 0) (long 64 0) (long 32768 0))
+    (rw start-keys (pages-clear (batchOf xs) (λ i h. pages-good xs t i (omega arith)) e))

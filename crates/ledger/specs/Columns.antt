@@ -4,27 +4,27 @@ use mathlib.Core.List.{List}
 use Prim.Native.Nat.{ℕ, zero, suc, _+_, _*_, _<_}
 use lib.ListN.{length, getD}
 
--- the sum over the first n columns: a column's sum by its weight in the first row, and 32 times its running sum, where a byte stands once for each row before its own
+-- the sum over the first n columns: a column's sum by its weight in the first row, and 48 times its running sum, where a byte stands once for each row before its own
 unfoldable pub gathered : List ℕ → List ℕ → ℕ → ℕ
 gathered sums runs zero = 0
-gathered sums runs (suc n) = gathered sums runs n + ((n + 1) * getD sums n 0 + 32 * getD runs n 0)
+gathered sums runs (suc n) = gathered sums runs n + ((n + 1) * getD sums n 0 + 48 * getD runs n 0)
 
 -- each column's sums are of 16 bits
 pub record Lanes (sums runs : List ℕ) : Type 0 where
-  pub sums-lane : (c : ℕ) → c < 32 → getD sums c 0 < 65536
-  pub runs-lane : (c : ℕ) → c < 32 → getD runs c 0 < 65536
+  pub sums-lane : (c : ℕ) → c < 48 → getD sums c 0 < 65536
+  pub runs-lane : (c : ℕ) → c < 48 → getD runs c 0 < 65536
 
 -- there is room for one row more
 pub record Room (row sums runs : List ℕ) : Type 0 where
-  pub row-long : length row ≡ 32
-  pub sums-long : length sums ≡ 32
-  pub runs-long : length runs ≡ 32
-  pub sums-fit : (c : ℕ) → c < 32 → getD sums c 0 + 255 < 65536
-  pub runs-fit : (c : ℕ) → c < 32 → getD runs c 0 + getD sums c 0 < 65536
+  pub row-long : length row ≡ 48
+  pub sums-long : length sums ≡ 48
+  pub runs-long : length runs ≡ 48
+  pub sums-fit : (c : ℕ) → c < 48 → getD sums c 0 + 255 < 65536
+  pub runs-fit : (c : ℕ) → c < 48 → getD runs c 0 + getD sums c 0 < 65536
 
 -- one row more: each column's running sum takes its sum, and its sum the row's byte
 pub record Added (row sums runs sums′ runs′ : List ℕ) : Type 0 where
-  pub sums-long : length sums′ ≡ 32
-  pub runs-long : length runs′ ≡ 32
-  pub sums-more : (c : ℕ) → c < 32 → getD sums′ c 0 ≡ getD sums c 0 + getD row c 0
-  pub runs-more : (c : ℕ) → c < 32 → getD runs′ c 0 ≡ getD runs c 0 + getD sums c 0
+  pub sums-long : length sums′ ≡ 48
+  pub runs-long : length runs′ ≡ 48
+  pub sums-more : (c : ℕ) → c < 48 → getD sums′ c 0 ≡ getD sums c 0 + getD row c 0
+  pub runs-more : (c : ℕ) → c < 48 → getD runs′ c 0 ≡ getD runs c 0 + getD sums c 0

@@ -1,4 +1,4 @@
-// The check's sum over a page, by columns: rows of 32 bytes from the last to the first, whose 16-bit sums are vector code.
+// The check's sum over a page, by columns: rows of 48 bytes from the last to the first, whose 16-bit sums are vector code.
 use crate::page::check;
 ghost use mathlib.Core.Path.{_≡_};
 ghost use Prim.Native.Nat.{_+_, _≤_};
@@ -7,14 +7,14 @@ ghost use Rattle.ledger.specs.Bytes.{weighed};
 ghost use Rattle.ledger.specs.Columns.{Lanes, Room, Added, gathered};
 
 // The bytes of a row, the whole rows before the check, and where the bytes behind them begin.
-const COLUMNS: usize = 32;
+const COLUMNS: usize = 48;
 
-const ROWS: usize = 15;
+const ROWS: usize = 10;
 
 const TAIL: usize = ROWS * COLUMNS;
 
 // What each row before it adds to a byte's weight.
-const STEP: u32 = 32;
+const STEP: u32 = 48;
 
 // One row more: the running sums take the sums, and the sums the row's bytes, so that a byte of row r is run r times.
 fn add_row(row: &[u8], sums: &mut [u16; COLUMNS], runs: &mut [u16; COLUMNS])
@@ -32,7 +32,7 @@ fn add_row(row: &[u8], sums: &mut [u16; COLUMNS], runs: &mut [u16; COLUMNS])
 // The weighted sum of the columns.
 fn gather(sums: &[u16; COLUMNS], runs: &[u16; COLUMNS]) -> u32
     requires { ⌜ Lanes (now sums) (now runs) ⌝ }
-    ensures { λ r. ⌜ r ≡ gathered (now (sums .entry)) (now (runs .entry)) 32 ⌝ }
+    ensures { λ r. ⌜ r ≡ gathered (now (sums .entry)) (now (runs .entry)) 48 ⌝ }
 {
     let mut total: u32 = 0;
     let mut c = 0;

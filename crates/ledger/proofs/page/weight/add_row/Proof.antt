@@ -10,7 +10,7 @@ abbrev Inv-loop : tie.InvT-loop
 Inv-loop row sums₀ runs₀ c₀ sums runs c = Adding row sums₀ runs₀ sums runs c
 
 abbrev μ-loop : tie.MeasureT-loop
-μ-loop row sums₀ runs₀ c₀ sums runs c = 32 - c
+μ-loop row sums₀ runs₀ c₀ sums runs c = 48 - c
 
 loop-holds : tie.Need-loop-holds Inv-loop μ-loop
 loop-holds c = adding-begins _ _ _ (c .pre)

@@ -11,10 +11,10 @@ use Rattle.ledger.proofs.page.weight.gather.Statement.{statement}
 use Rattle.ledger.proofs.page.weight.gather.Tie as tie
 
 abbrev Inv-loop : tie.InvT-loop
-Inv-loop sums runs total₀ c₀ total c = (c ≤ 32) × (total ≡ gathered sums runs c) × (total ≤ 4194240 * c)
+Inv-loop sums runs total₀ c₀ total c = (c ≤ 48) × (total ≡ gathered sums runs c) × (total ≤ 6291360 * c)
 
 abbrev μ-loop : tie.MeasureT-loop
-μ-loop sums runs total₀ c₀ total c = 32 - c
+μ-loop sums runs total₀ c₀ total c = 48 - c
 
 -- the turn's two lanes, and its terms
 sum-lane : (c : tie.In-loop Inv-loop μ-loop) → getD (c .before .before .args .sums .now) (c .before .loop .c) 0 < 65536
@@ -23,7 +23,7 @@ sum-lane c = c .before .before .pre .sums-lane (c .before .loop .c) (c .loop-tes
 run-lane : (c : tie.In-loop Inv-loop μ-loop) → getD (c .before .before .args .runs .now) (c .before .loop .c) 0 < 65536
 run-lane c = c .before .before .pre .runs-lane (c .before .loop .c) (c .loop-test .taken)
 
-term : (c : tie.In-loop Inv-loop μ-loop) → (c .before .loop .c + 1) * getD (c .before .before .args .sums .now) (c .before .loop .c) 0 ≤ 2097120
+term : (c : tie.In-loop Inv-loop μ-loop) → (c .before .loop .c + 1) * getD (c .before .before .args .sums .now) (c .before .loop .c) 0 ≤ 3145680
 term c = column-le (omega arith) (sum-lane c)
 
 loop-holds : tie.Need-loop-holds Inv-loop μ-loop

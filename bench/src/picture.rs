@@ -11,8 +11,8 @@ const RIGHT: f64 = 880.0;
 const TOP: f64 = 84.0;
 const BOTTOM: f64 = 44.0;
 /// A bar and a group of three with the gap after it.
-const BAR: f64 = 12.0;
-const GROUP: f64 = 48.0;
+const BAR: f64 = 14.0;
+const GROUP: f64 = 54.0;
 const FONT: &str = "font-family=\"Helvetica, Arial, sans-serif\"";
 
 /// A side's name and colour.
@@ -125,7 +125,7 @@ fn group(axis: &Axis, top: f64, one: &Measured) -> String {
     for (row, nanoseconds) in [one.ours, one.rust, one.peer].into_iter().enumerate() {
         let (y, x) = (top + BAR * row as f64, axis.x(nanoseconds));
         let (width, colour) = (x - LEFT, SIDES[row].1);
-        let (height, label) = (BAR - 1.0, y + BAR - 2.0);
+        let (height, label) = (BAR - 2.0, y + BAR - 4.5);
         svg += &format!("<rect x=\"{LEFT}\" y=\"{y:.1}\" width=\"{width:.1}\" height=\"{height}\" fill=\"{colour}\"/>\n");
         let star = if row == 2 && one.cap_hit { " *" } else { "" };
         svg += &text(x + 5.0, label, 10, "start", &(time(nanoseconds) + star));

@@ -1,6 +1,7 @@
 //! The proved services, called over their C interface (`include/nevolisca.h`). The only `unsafe` of this package.
 
 use crate::answer::{Answer, Refusal};
+use crate::second;
 
 /// Entries of each array of a transaction.
 pub const ENTRIES: usize = 32;
@@ -16,6 +17,21 @@ pub struct Transaction {
     pub write_keys: [u16; ENTRIES],
     pub write_kinds: [u16; ENTRIES],
     pub write_values: [i64; ENTRIES],
+}
+
+/// The arrays as which the second opinion's transaction is lent.
+impl From<&second::Transaction> for Transaction {
+    fn from(from: &second::Transaction) -> Self {
+        Transaction {
+            head: [from.read_count, from.write_count, from.ticket],
+            read_keys: from.reads.map(|read| read.key),
+            read_places: from.reads.map(|read| read.version.place),
+            read_blocks: from.reads.map(|read| read.version.block),
+            write_keys: from.writes.map(|write| write.key),
+            write_kinds: from.writes.map(|write| write.kind),
+            write_values: from.writes.map(|write| write.value),
+        }
+    }
 }
 
 /// The parts of a transaction, each borrowed on its own, to be filled.

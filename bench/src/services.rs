@@ -1,6 +1,7 @@
 //! The table of the services: ours, the second opinion, and their ratio.
 #![forbid(unsafe_code)]
 
+use crate::answer::Answer;
 use crate::measure::{fastest, once, repeated, PASSES};
 use crate::node;
 use crate::planning::Measured;
@@ -126,44 +127,52 @@ fn plan(name: &str, workload: &Workload) -> Row {
     row(name, our_plan(workload), rust_plan(workload))
 }
 
-/// The state is put back before each call, outside the time taken.
+/// A commit as a side; the state is put back before each call, outside the time taken.
+fn committing<'a>(
+    workload: &'a Workload,
+    mut commit: impl FnMut(&[u8], &mut Ledger, &mut [u8]) -> Answer + 'a,
+) -> impl FnMut() -> f64 + 'a {
+    let (mut after, mut verdicts) = (workload.ledger.clone(), vec![0; FULL_BATCH]);
+    move || {
+        after.clone_from(&workload.ledger);
+        let after = black_box(&mut after);
+        once(|| {
+            let answer = commit(black_box(&workload.batch[..]), after, &mut verdicts);
+            black_box(answer).expect("a good batch");
+        })
+    }
+}
+
 fn commit(name: &str, workload: &Workload) -> Row {
-    let start = &workload.ledger;
-    let (mut after, mut verdicts) = (start.clone(), vec![0; FULL_BATCH]);
-    let ours = move || {
-        after.clone_from(start);
-        let Ledger {
-            blocks,
-            places,
-            values,
-            n,
-        } = black_box(&mut after);
-        once(|| {
-            let batch = black_box(&workload.batch[..]);
-            let answer = node::commit(batch, blocks, places, values, *n, &mut verdicts);
-            black_box(answer).expect("a good batch");
-        })
-    };
-    let (mut after, mut verdicts) = (start.clone(), vec![0; FULL_BATCH]);
-    let rust = move || {
-        after.clone_from(start);
-        let Ledger {
-            blocks,
-            places,
-            values,
-            n,
-        } = black_box(&mut after);
-        let state = StateMut {
-            blocks,
-            places,
-            values,
-        };
-        once(|| {
-            let batch = black_box(&workload.batch[..]);
-            let answer = second::commit(batch, state, *n, &mut verdicts);
-            black_box(answer).expect("a good batch");
-        })
-    };
+    let ours = committing(
+        workload,
+        |batch,
+         Ledger {
+             blocks,
+             places,
+             values,
+             n,
+         },
+         verdicts| { node::commit(batch, blocks, places, values, *n, verdicts) },
+    );
+    let rust = committing(
+        workload,
+        |batch,
+         Ledger {
+             blocks,
+             places,
+             values,
+             n,
+         },
+         verdicts| {
+            let state = StateMut {
+                blocks,
+                places,
+                values,
+            };
+            second::commit(batch, state, *n, verdicts)
+        },
+    );
     row(name, ours, rust)
 }
 

@@ -38,23 +38,11 @@ fn transaction(ticket: u32, reads: &[Read], writes: &[Write]) -> Transaction {
     transaction
 }
 
-fn lent(from: &Transaction) -> node::Transaction {
-    node::Transaction {
-        head: [from.read_count, from.write_count, from.ticket],
-        read_keys: from.reads.map(|read| read.key),
-        read_places: from.reads.map(|read| read.version.place),
-        read_blocks: from.reads.map(|read| read.version.block),
-        write_keys: from.writes.map(|write| write.key),
-        write_kinds: from.writes.map(|write| write.kind),
-        write_values: from.writes.map(|write| write.value),
-    }
-}
-
 /// The page as both write it, and what both answer.
 fn page(ticket: u32, reads: &[Read], writes: &[Write]) -> Result<Vec<u8>, Refusal> {
     let transaction = transaction(ticket, reads, writes);
     let (mut ours, mut theirs) = (vec![1; PAGE], vec![2; PAGE]);
-    let answer = node::write_page(&mut ours, 0, lent(&transaction).parts());
+    let answer = node::write_page(&mut ours, 0, node::Transaction::from(&transaction).parts());
     assert_eq!(
         answer,
         second::write_page(&mut theirs, 0, &transaction).map(|()| 0)

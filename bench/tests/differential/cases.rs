@@ -117,19 +117,6 @@ fn to_second(from: &node::Transaction) -> second::Transaction {
     }
 }
 
-/// The lent arrays from the second opinion's transaction.
-fn to_node(from: &second::Transaction) -> node::Transaction {
-    node::Transaction {
-        head: [from.read_count, from.write_count, from.ticket],
-        read_keys: from.reads.map(|read| read.key),
-        read_places: from.reads.map(|read| read.version.place),
-        read_blocks: from.reads.map(|read| read.version.block),
-        write_keys: from.writes.map(|write| write.key),
-        write_kinds: from.writes.map(|write| write.kind),
-        write_values: from.writes.map(|write| write.value),
-    }
-}
-
 /// Reading a page into a transaction that holds anything before.
 #[derive(Clone, Debug)]
 pub struct ReadPage {
@@ -157,7 +144,7 @@ impl Case for ReadPage {
 
     fn by_second(&self) -> Outcome {
         let (answer, filled) = match second::read_page(&self.page) {
-            Ok(transaction) => (Ok(0), to_node(&transaction)),
+            Ok(transaction) => (Ok(0), node::Transaction::from(&transaction)),
             Err(refusal) => (Err(refusal), self.into.clone()),
         };
         let mut outcome = outcome(answer);

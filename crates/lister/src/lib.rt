@@ -2,16 +2,12 @@
 mod list;
 mod stdin;
 
+use ledger::batch::MOST_BYTES;
+use ledger::batch::MOST_PAGES;
+use report::LISTING_ROOM;
 use stdin::Input;
 ghost use Prim.Native.Nat.{_≤_};
 ghost use lib.ListN.{length};
-
-// The most pages of a batch, its most bytes, and the bytes that any listing fits into.
-const PAGES: usize = 64;
-
-const BYTES: usize = 32768;
-
-const TEXT: usize = 65536;
 
 // Says on standard error why nothing is listed: a program has no exit status of its own.
 fn complain(why: &[u8]) {
@@ -29,11 +25,11 @@ fn show(text: &[u8], n: usize)
 
 // Lists standard input, read into a page buffer, over the state that is lent.
 pub fn run(page: &mut [u8], blocks: &mut [u32], places: &mut [u16], values: &mut [i64]) {
-    let mut verdicts = [0u8; PAGES];
-    let mut order = [0u8; PAGES];
-    let mut out = [0u8; BYTES];
-    let mut passed = [0u8; PAGES];
-    let mut text = [0u8; TEXT];
+    let mut verdicts = [0u8; MOST_PAGES];
+    let mut order = [0u8; MOST_PAGES];
+    let mut out = [0u8; MOST_BYTES];
+    let mut passed = [0u8; MOST_PAGES];
+    let mut text = [0u8; LISTING_ROOM];
     match stdin::read_input(page) {
         Input::Unread => complain(b"listing: standard input failed\n"),
         Input::TooLong => {

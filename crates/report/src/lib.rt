@@ -13,7 +13,7 @@ ghost use Rattle.report.specs.Listing.{listed, refused, filled};
 // The bytes that the line of a refusal fits into, and those that any listing does.
 const REFUSAL_ROOM: usize = 64;
 
-const LISTING_ROOM: usize = 65536;
+pub const LISTING_ROOM: usize = 65536;
 
 // Fills a buffer with the line of a refusal, and gives its length.
 pub fn fill_refusal(out: &mut [u8], number: u32, place: u32) -> usize

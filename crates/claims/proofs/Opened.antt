@@ -8,29 +8,30 @@ use lib.ListN.{length, take, drop, replicate, length-append, length-replicate, g
 use lib.IntN.{pos}
 use lib.Seq.{take-at, drop-append-add}
 use lib.Signed.{mag}
-use lib.Dec.{T, eqb, ltb, eqb→eq, ltb→lt}
+use lib.Dec.{T, ltb, ltb→lt}
 use mir.Syntax.{w64}
 use mir.Val.{hbits}
 use borrow.Author.Tests.{le-ltb}
-use Rattle.refusals.specs.Fault.{Fault, clear, _orElse_}
-use Rattle.lists.specs.Choice.{pick}
+use Rattle.refusals.specs.Fault.{Fault, clear, fault}
+use Rattle.refusals.specs.Fault.{first as firstOf}
+use Rattle.refusals.proofs.Rows.{append-none, each-clear, test-clear}
 use Rattle.lists.specs.Members.{all}
 use Rattle.lists.proofs.Tests.{and-left, and-right}
 use Rattle.lists.proofs.Membership.{all-out, getD-in}
 use Rattle.ledger.specs.declared.Read.{Read}
 use Rattle.ledger.specs.declared.Write.{Write}
 use Rattle.ledger.specs.Tx.{Tx, noRead, noWrite, readOf, writeOf, ReadFits, WriteFits}
-use Rattle.ledger.specs.Page.{countFault, entryFault, pageFault, pageOf, pageAt}
-use Rattle.ledger.specs.State.{stateOf, gone, keys, entry, wrongEntry, wrongLengths}
-use Rattle.ledger.specs.Gate.{pages, txAt, lowest, again, beyond, pagesFault, gateFault}
-use Rattle.ledger.proofs.Gated.{wrongEntries, not-wrong}
+use Rattle.ledger.specs.Page.{countRows, entryRows, pageFault, pageOf, pageAt}
+use Rattle.ledger.specs.State.{stateOf, gone, keys, entry, wrongEntry, wrongLengths, stateRows}
+use Rattle.ledger.specs.Gate.{pages, rowsAt, pagesRows, gateFault}
+use Rattle.ledger.proofs.Gated.{good-at, ticketRows, keyRows, pages-rest, state-rest, not-wrong}
 use Rattle.ledger.proofs.Back.{Fitting, good-back}
 use Rattle.ledger.proofs.Pages.{good-counted}
 use Rattle.planner.specs.Plan.{short}
 use Rattle.lister.specs.Written.{first}
 use Rattle.claims.specs.Cases.{batchOf}
 use Rattle.claims.specs.Shown.{start}
-use Rattle.claims.proofs.OutBatch.{lowest-of, gate-clear}
+use Rattle.claims.proofs.OutBatch.{gate-clear}
 use Rattle.claims.proofs.Shown.{long}
 
 -- ---- absent keys
@@ -52,9 +53,10 @@ start-lengths : wrongLengths start ≡ false
 unfolding start
 start-lengths = refl
 
-start-entries : wrongEntries start first ≡ clear
-start-entries =
-    lowest-of (λ k. pick (wrongEntry first (entry start k)) 13 0) (keys start) (λ k h. rw (start-absent k (rw start-keys at h)))
+start-rows : firstOf (stateRows start first) ≡ clear
+start-rows =
+    state-rest start first start-lengths
+    ∙ test-clear 13 (keys start) (λ k. wrongEntry first (entry start k)) (λ k h. rw (start-absent k (rw start-keys at h)))
 
 -- ---- the pages of good transactions
 
@@ -65,13 +67,20 @@ fitsRead r = ltb (r .key) (2 ^ 16) && ltb (r .version .place) (2 ^ 16) && ltb (r
 abbrev pub fitsWrite : Write → Bool
 fitsWrite w = ltb (w .key) (2 ^ 16) && ltb (w .kind) (2 ^ 16) && ltb (mag (w .value)) (2 ^ hbits w64)
 
+abbrev pub clear? : Fault → Bool
+clear? clear = true
+clear? (fault n p) = false
+
+is-clear : (f : Fault) → T (clear? f) → f ≡ clear
+is-clear clear t = refl
+
 abbrev pub good : Tx → Bool
 good x =
     ltb (x .ticket) (2 ^ 32)
     && all fitsRead (x .reads)
     && all fitsWrite (x .writes)
-    && eqb (countFault (length (x .reads)) (length (x .writes))) 0
-    && eqb (entryFault x) 0
+    && clear? (firstOf (countRows (length (x .reads)) (length (x .writes))))
+    && clear? (firstOf (entryRows x))
 
 three : (a b c : Bool) → T (a && b && c) → T a × T b × T c
 three true true c t = (tt, tt, t)
@@ -86,17 +95,17 @@ write-fits w t =
     let u = three (ltb (w .key) (2 ^ 16)) (ltb (w .kind) (2 ^ 16)) (ltb (mag (w .value)) (2 ^ hbits w64)) t in
     record { key = ltb→lt _ _ (u .0); kind = ltb→lt _ _ (u .1); value = record { sfits = ltb→lt _ _ (u .2) } }
 
-good-page : (x : Tx) → T (good x) → pageFault (pageOf x) ≡ 0
+good-page : (x : Tx) → T (good x) → pageFault (pageOf x) ≡ clear
 good-page x t =
-    let c = eqb (countFault (length (x .reads)) (length (x .writes))) 0 in
-    let u = three (ltb (x .ticket) (2 ^ 32) && all fitsRead (x .reads) && all fitsWrite (x .writes)) c (eqb (entryFault x) 0) t in
+    let c = clear? (firstOf (countRows (length (x .reads)) (length (x .writes)))) in
+    let u = three (ltb (x .ticket) (2 ^ 32) && all fitsRead (x .reads) && all fitsWrite (x .writes)) c (clear? (firstOf (entryRows x))) t in
     let v = three (ltb (x .ticket) (2 ^ 32)) (all fitsRead (x .reads)) (all fitsWrite (x .writes)) (u .0) in
     let fits : Fitting x = record {
       ticket = ltb→lt (x .ticket) (2 ^ 32) (v .0);
       reads = λ i h. read-fits (readOf (x .reads) i) (all-out fitsRead (x .reads) (v .1) (getD-in (x .reads) i noRead h));
       writes = λ i h. write-fits (writeOf (x .writes) i) (all-out fitsWrite (x .writes) (v .2) (getD-in (x .writes) i noWrite h));
     } in
-    good-back x fits (eqb→eq _ _ (u .1)) (eqb→eq _ _ (u .2)) .0
+    good-back x fits (is-clear _ (u .1)) (is-clear _ (u .2)) .0
 
 page-long : (x : Tx) → T (good x) → length (pageOf x) ≡ 512
 page-long x t = good-counted (pageOf x) (good-page x t) .whole
@@ -110,7 +119,7 @@ batch-long (x ∷ xs) t =
     let b = batch-long xs (and-right (good x) (all good xs) t) in
     length-append (pageOf x) (batchOf xs) ∙ omega arith
 
-pages-good : (xs : List Tx) → T (all good xs) → (i : ℕ) → i < length xs → pageFault (pageAt (batchOf xs) i) ≡ 0
+pages-good : (xs : List Tx) → T (all good xs) → (i : ℕ) → i < length xs → pageFault (pageAt (batchOf xs) i) ≡ clear
 unfolding batchOf
 pages-good [] t i h = absurd (omega arith)
 pages-good (x ∷ xs) t zero h =
@@ -126,7 +135,7 @@ pages-good (x ∷ xs) t (suc i) h =
 
 -- what the gate looks for after the faults of each page: 15 and 16
 abbrev pub later : List ℕ → Fault
-later input = lowest (λ i. pick (again input i) 15 0) (pages input) orElse lowest (λ i. pick (beyond 1024 (txAt input i)) 16 0) (pages input)
+later input = firstOf (ticketRows input 1024 ++ keyRows input 1024)
 
 -- what it finds in an input of the program
 abbrev pub shut : List ℕ → Fault
@@ -135,9 +144,10 @@ shut input = gateFault (short input (replicate 64 0) (replicate 64 0) (replicate
 not-short : (m v o u : ℕ) → m ≤ 64 → 64 ≤ v → 64 ≤ o → 32768 ≤ u → (ltb v m || ltb o m || ltb u (512 * m)) ≡ false
 not-short m v o u h a b c = rw (le-ltb v m (omega arith), le-ltb o m (omega arith), le-ltb u (512 * m) (omega arith))
 
-pages-clear : (input : List ℕ) → ((i : ℕ) → i < pages input → pageFault (pageAt input i) ≡ 0) → later input ≡ clear → pagesFault input 1024 ≡ clear
-unfolding pagesFault
-pages-clear input f g = rw (lowest-of (λ i. pageFault (pageAt input i)) (pages input) f, g)
+pages-clear : (input : List ℕ) → ((i : ℕ) → i < pages input → pageFault (pageAt input i) ≡ clear) → later input ≡ clear → firstOf (pagesRows input 1024) ≡ clear
+pages-clear input f g =
+    let h = append-none (ticketRows input 1024) (keyRows input 1024) g in
+    pages-rest input 1024 (each-clear (rowsAt input) (pages input) (λ i l. good-at input i (f i l))) (h .0) ∙ h .1
 
 pub open-gate : (xs : List Tx) → T (all good xs) → length xs ≤ 64 → later (batchOf xs) ≡ clear → shut (batchOf xs) ≡ clear
 open-gate xs t few e =
@@ -145,7 +155,6 @@ open-gate xs t few e =
     let p : pages (batchOf xs) ≡ length xs = omega arith in
     gate-clear (short (batchOf xs) (replicate 64 0) (replicate 64 0) (replicate 32768 0)) (batchOf xs) start first
     (not-wrong (batchOf xs) (omega arith) (omega arith))
-    start-lengths
-    start-entries
+    start-rows
     (not-short (pages (batchOf xs)) _ _ _ (omega arith) (long 64 0) (long 64 0) (long 32768 0))
     (rw start-keys (pages-clear (batchOf xs) (λ i h. pages-good xs t i (omega arith)) e))

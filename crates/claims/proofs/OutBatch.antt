@@ -2,25 +2,25 @@
 use Prim.Native.Nat.{ℕ, zero, suc, _+_, _*_, _≤_, _<_}
 use native.Mathlib.Decide.{decLt}
 use native.Mathlib.Omega.{arith}
-use mathlib.Core.Bool.{Bool, false, not}
+use mathlib.Core.Bool.{Bool, false}
 use mathlib.Core.List.{List, [], _∷_, _++_, map, map-append, List·Memᴰ·head, List·Memᴰ·tail}
 use mathlib.Core.Path.{_≡_, refl, sym, ap, _∙_}
 use lib.ListN.{length, getD, take, drop, length-append, length-take, length-drop}
 use lib.Seq.{take-at, drop-append-add}
 use lib.Dec.{T, eqb, ltb}
 use borrow.Author.Tests.{le-ltb, ne-eqb}
-use Rattle.lists.specs.Choice.{pick}
 use Rattle.lists.specs.Members.{_∈_, distinct}
 use Rattle.lists.proofs.Tests.{differ}
 use Rattle.lists.proofs.Membership.{getD-in, apart, rest}
 use Rattle.lists.proofs.Searches.{none-at}
-use Rattle.refusals.specs.Fault.{clear, at}
+use Rattle.refusals.specs.Fault.{clear, first}
+use Rattle.refusals.proofs.Rows.{row-none, append-none, each-clear, test-clear}
 use Rattle.ledger.specs.Bytes.{tab}
 use Rattle.ledger.specs.Page.{pageTx, pageFault, pageAt}
-use Rattle.ledger.specs.State.{State, keys, wrongLengths}
-use Rattle.ledger.specs.Gate.{pages, txAt, txs, lowest, again, beyond, pagesFault, gateFault}
+use Rattle.ledger.specs.State.{State, keys, stateRows}
+use Rattle.ledger.specs.Gate.{pages, txAt, txs, rowsAt, again, beyond, pagesRows, bytesRow, gateRows, gateFault}
 use Rattle.ledger.proofs.OnPage.{tab-same, tab-list}
-use Rattle.ledger.proofs.Gated.{else-none, at-none, wrongBytes, wrongEntries, not-wrong, Through}
+use Rattle.ledger.proofs.Gated.{good-at, pages-rest, gate-pages, wrongBytes, not-wrong, Through}
 use Rattle.planner.specs.Plan.{gathered}
 
 -- ---- lists
@@ -43,25 +43,16 @@ distinct-at (x ∷ is) d (suc i) (suc j) l h e = distinct-at is (rest x is d) i 
 
 -- ---- the gate
 
--- where no index has a fault, there is none
-pub lowest-of : (number : ℕ → ℕ) (n : ℕ) → ((i : ℕ) → i < n → number i ≡ 0) → lowest number n ≡ clear
-unfolding lowest
-lowest-of number n h = rw (none-at (λ j. not (eqb (number j) 0)) n (λ i l. rw (h i l)))
-
 -- what the gate says of the state alone
-state-good : (short : Bool) (batch : List ℕ) (s : State) (n : ℕ) → gateFault short batch s n ≡ clear → (wrongLengths s ≡ false) × (wrongEntries s n ≡ clear)
-unfolding gateFault
-state-good short batch s n e =
-    let a = else-none (at 11 (wrongBytes batch)) _ e in
-    let b = else-none (at 12 (wrongLengths s)) _ (a .1) in
-    (at-none 12 (wrongLengths s) (b .0), else-none (wrongEntries s n) _ (b .1) .0)
+state-good : (short : Bool) (batch : List ℕ) (s : State) (n : ℕ) → gateFault short batch s n ≡ clear → first (stateRows s n) ≡ clear
+unfolding gateRows
+state-good short batch s n e = append-none (stateRows s n) _ (row-none (bytesRow batch) _ e .1) .0
 
 pub gate-clear :
     (short : Bool) (batch : List ℕ) (s : State) (n : ℕ) →
-    wrongBytes batch ≡ false → wrongLengths s ≡ false → wrongEntries s n ≡ clear → short ≡ false → pagesFault batch (keys s) ≡ clear →
+    wrongBytes batch ≡ false → first (stateRows s n) ≡ clear → short ≡ false → first (pagesRows batch (keys s)) ≡ clear →
     gateFault short batch s n ≡ clear
-unfolding gateFault
-gate-clear short batch s n e f g h p = rw (e, f, g, h, p)
+gate-clear short batch s n e f h p = gate-pages short batch s n e f h ∙ p
 
 -- ---- pages gathered
 
@@ -122,18 +113,15 @@ module _ (short : Bool) (batch : List ℕ) (s : State) (n : ℕ) (c : gateFault 
       (λ e. no-ticket (getD is j 0) (getD is i 0) (inside-at j (omega arith)) (inside-at i h) (distinct-at is once i j l h)
       (ap (λ p. pageTx p .ticket) (sym (page-is j (omega arith))) ∙ e ∙ ap (λ p. pageTx p .ticket) (page-is i h))))
 
-  pages-clear : pagesFault (gathered batch is) (keys s) ≡ clear
-  unfolding pagesFault
+  pages-clear : first (pagesRows (gathered batch is) (keys s)) ≡ clear
   pages-clear =
       let m = gathered-pages batch (pages batch) (t .ready .whole) is inside in
-      rw (
-        lowest-of (λ i. pageFault (pageAt (gathered batch is) i)) (pages (gathered batch is))
-            (λ i h. ap pageFault (page-is i (rw m at h)) ∙ t .ready .each (getD is i 0) (inside-at i (rw m at h)) .good),
-        lowest-of (λ i. pick (again (gathered batch is) i) 15 0) (pages (gathered batch is)) (λ i h. ap (λ b. pick b 15 0) (none-again i (rw m at h))),
-        lowest-of (λ i. pick (beyond (keys s) (txAt (gathered batch is) i)) 16 0) (pages (gathered batch is))
-            (λ i h. ap (λ p. pick (beyond (keys s) (pageTx p)) 16 0) (page-is i (rw m at h))
-            ∙ ap (λ b. pick b 16 0) (t .ready .each (getD is i 0) (inside-at i (rw m at h)) .within)),
-      )
+      pages-rest (gathered batch is) (keys s)
+      (each-clear (rowsAt (gathered batch is)) (pages (gathered batch is))
+      (λ i h. good-at (gathered batch is) i (ap pageFault (page-is i (rw m at h)) ∙ t .ready .each (getD is i 0) (inside-at i (rw m at h)) .good)))
+      (test-clear 15 (pages (gathered batch is)) (again (gathered batch is)) (λ i h. none-again i (rw m at h)))
+      ∙ test-clear 16 (pages (gathered batch is)) (λ i. beyond (keys s) (txAt (gathered batch is) i))
+      (λ i h. ap (λ p. beyond (keys s) (pageTx p)) (page-is i (rw m at h)) ∙ t .ready .each (getD is i 0) (inside-at i (rw m at h)) .within)
 
   -- the gate lets them through, with verdicts enough for 14
   pub gathered-open : (vs : List ℕ) → length is ≤ 64 → length is ≤ length vs → gateFault (ltb (length vs) (pages (gathered batch is))) (gathered batch is) s n ≡ clear
@@ -143,7 +131,6 @@ module _ (short : Bool) (batch : List ℕ) (s : State) (n : ℕ) (c : gateFault 
       let g = state-good short batch s n c in
       gate-clear (ltb (length vs) (pages (gathered batch is))) (gathered batch is) s n
       (not-wrong (gathered batch is) (omega arith) (omega arith))
-      (g .0)
-      (g .1)
+      g
       (le-ltb (length vs) (pages (gathered batch is)) (omega arith))
       pages-clear

@@ -1,19 +1,21 @@
 -- Demand 2 for pages: the round trips, and what the check notices. Assumes nothing.
 use Prim.Native.Nat.{ℕ, _+_, _*_, _/_, _^_, _<_, _≤_}
 use native.Mathlib.Omega.{arith}
-use mathlib.Core.Bool.{Bool, true, false, not, true≢false}
-use mathlib.Core.List.{List, []}
+use mathlib.Core.Bool.{not}
+use mathlib.Core.List.{List, [], _∷_}
 use mathlib.Core.Logic.{_⊎_, ⊎-elim}
 use mathlib.Core.Path.{_≡_, refl, sym, ap, _∙_}
 use lib.ListN.{length, getD, set}
-use lib.Dec.{eqb}
-use borrow.Author.Tests.{eqb-true, eqb-false, ltb-true, lt-ltb}
+use lib.Dec.{ltb}
+use borrow.Author.Tests.{ltb-true, lt-ltb, not-false}
 use Rattle.refusals.specs.Outcome.{Outcome, gives}
+use Rattle.refusals.specs.Fault.{Fault, clear, fault, first}
+use Rattle.refusals.proofs.Rows.{row-none, row-passed, append-none, judged-gives}
 use Rattle.ledger.specs.declared.Transaction.{Transaction}
 use Rattle.ledger.specs.Bytes.{Small, weighed}
 use Rattle.ledger.specs.Tx.{Tx, valueTx, padded, TransactionFits}
-use Rattle.ledger.specs.Page.{_then_, fault, countFault, entryFault, pageTx, pageOf, pageFault, pageAt, placed}
-use Rattle.ledger.specs.Services.{Counts, Taken, readPage, Put, writeFault, writePage}
+use Rattle.ledger.specs.Page.{countRows, entryRows, pageTx, pageOf, pageFault, pageAt, placed}
+use Rattle.ledger.specs.Services.{Counts, Taken, readPage, Put, indexRow, writeRows, writeFault, writePage}
 use Rattle.ledger.proofs.Back.{page-back}
 use Rattle.ledger.proofs.Exact.{page-exact}
 use Rattle.ledger.proofs.Faults as faults
@@ -23,50 +25,39 @@ use Rattle.ledger.proofs.Numbers as numbers
 use Rattle.ledger.proofs.Pages.{empty-good, good-counted}
 use Rattle.ledger.proofs.Placed as place
 use Rattle.ledger.proofs.Valued.{value-padded}
-use Rattle.claims.proofs.Outcomes.{apart}
 
 -- the counts of a transaction
 abbrev counts : Tx → Counts
 counts x = record { reads = length (x .reads); writes = length (x .writes) }
 
 -- a page that is taken has no fault, and one without a fault is taken
-taken-good : (p : List ℕ) (c : Counts) → readPage p .answer ≡ gives c → pageFault p ≡ 0
+taken-good : (p : List ℕ) (c : Counts) → readPage p .answer ≡ gives c → pageFault p ≡ clear
 unfolding readPage
 taken-good p c e = faults.taken-none p c (sym e)
 
-good-taken : (p : List ℕ) → pageFault p ≡ 0 → readPage p ≡ record { answer = gives (counts (pageTx p)); transaction = padded (pageTx p) }
+good-taken : (p : List ℕ) → pageFault p ≡ clear → readPage p ≡ record { answer = gives (counts (pageTx p)); transaction = padded (pageTx p) }
 good-taken p e =
     sym (faults.read-taken p e)
     ∙ ap (λ (o : Outcome Counts). record { answer = o; transaction = padded (pageTx p) }) (sym (faults.check-taken p _ _ refl refl e))
 
-unnot : (b : Bool) → not b ≡ false → b ≡ true
-unnot true e = refl
-unnot false e = absurd (true≢false e)
-
-both : {a b : ℕ} → a ≡ 0 → b ≡ 0 → a then b ≡ 0
-both {a} {b} h k = faults.then-rest a b h ∙ k
-
 -- ---- "Pages .. read back as written"
 
 module _ (batch : List ℕ) (index : ℕ) (t : Transaction) where
-  abbrev wrong : ℕ
+  abbrev wrong : Fault
   wrong = writeFault t index (length batch / 512)
 
   -- a page that is written had no fault
-  written-good : writePage batch index t .answer ≡ gives tt → wrong ≡ 0
-  written-good e = go (eqb wrong 0) refl
-    where
-      go : (b : Bool) → eqb wrong 0 ≡ b → wrong ≡ 0
-      go true h = eqb-true wrong 0 h
-      go false h = absurd (apart e (sym (ap (λ (w : Put). w .answer) (faults.write-refused batch index t wrong (eqb-false wrong 0 h) refl))))
+  written-good : writePage batch index t .answer ≡ gives tt → wrong ≡ clear
+  unfolding writePage
+  written-good e = judged-gives wrong tt tt (sym e) .0
 
   -- no fault of the counts, of the entries, of the index
-  split : wrong ≡ 0 → (countFault (t .r) (t .w) ≡ 0) × (entryFault (valueTx t) ≡ 0) × (index < length batch / 512)
-  unfolding writeFault
+  split : wrong ≡ clear → (first (countRows (t .r) (t .w)) ≡ clear) × (first (entryRows (valueTx t)) ≡ clear) × (index < length batch / 512)
+  unfolding writeRows
   split g =
-      let a = faults.then-none (countFault (t .r) (t .w)) _ g in
-      let b = faults.then-none (entryFault (valueTx t)) _ (a .1) in
-      (a .0, b .0, ltb-true index (length batch / 512) (unnot _ (faults.fault-none 16 _ (b .1))))
+      let a = append-none (countRows (t .r) (t .w)) _ g in
+      let b = append-none (entryRows (valueTx t)) (indexRow index (length batch / 512) ∷ []) (a .1) in
+      (a .0, b .0, ltb-true index (length batch / 512) (not-false (ltb index (length batch / 512)) (row-none _ _ (b .1) .0)))
 
   -- what is written at a page index reads back from there as it was, up to the entries beyond the counts
   pub reads-back :
@@ -75,40 +66,41 @@ module _ (batch : List ℕ) (index : ℕ) (t : Transaction) where
   reads-back fits e =
       let g = written-good e in
       let parts = split g in
-      let back = page-back t fits (both (parts .0) (parts .1)) in
+      let back = page-back t fits (parts .0) (parts .1) in
       let b = sym (ap (λ (w : Put). w .batch) (faults.write-done batch index t g)) in
       let p = ap (λ (l : List ℕ). pageAt l index) b ∙ place.placed-here batch (pageOf (valueTx t)) index (good-counted (pageOf (valueTx t)) (back .0) .whole) (omega (arith, parts .2)) in
       ap readPage p ∙ good-taken (pageOf (valueTx t)) (back .0) ∙ ap (λ (x : Tx). record { answer = gives (counts x); transaction = padded x }) (back .1)
 
   -- "every byte of the batch outside that page stays"
   pub outside : TransactionFits t → (k : ℕ) → (k < index * 512) ⊎ (index * 512 + 512 ≤ k) → getD (writePage batch index t .batch) k 0 ≡ getD batch k 0
-  outside fits k h = go (eqb wrong 0) refl
+  outside fits k h = go wrong refl
     where
-      go : (b : Bool) → eqb wrong 0 ≡ b → getD (writePage batch index t .batch) k 0 ≡ getD batch k 0
-      go true g =
-          let parts = split (eqb-true wrong 0 g) in
-          let long = good-counted (pageOf (valueTx t)) (page-back t fits (both (parts .0) (parts .1)) .0) .whole in
+      go : (f : Fault) → wrong ≡ f → getD (writePage batch index t .batch) k 0 ≡ getD batch k 0
+      go clear g =
+          let parts = split g in
+          let long = good-counted (pageOf (valueTx t)) (page-back t fits (parts .0) (parts .1) .0) .whole in
           let inside : index * 512 + 512 ≤ length batch = omega (arith, parts .2) in
-          ap (λ (l : List ℕ). getD l k 0) (sym (ap (λ (w : Put). w .batch) (faults.write-done batch index t (eqb-true wrong 0 g))))
+          ap (λ (l : List ℕ). getD l k 0) (sym (ap (λ (w : Put). w .batch) (faults.write-done batch index t g)))
           ∙ ⊎-elim
           (place.placed-before batch (pageOf (valueTx t)) index long inside k)
           (place.placed-after batch (pageOf (valueTx t)) index long inside k)
           h
-      go false g = ap (λ (l : List ℕ). getD l k 0) (sym (ap (λ (w : Put). w .batch) (faults.write-refused batch index t wrong (eqb-false wrong 0 g) refl)))
+      go (fault n q) g = ap (λ (l : List ℕ). getD l k 0) (sym (ap (λ (w : Put). w .batch) (faults.write-refused batch index t n q g)))
 
 -- "and one that is accepted is exactly what our writer would write"
 pub accepted :
     (p : List ℕ) (c : Counts) → Small p → readPage p .answer ≡ gives c →
     (batch : List ℕ) (index : ℕ) → index < length batch / 512 →
     writePage batch index (readPage p .transaction) ≡ record { answer = gives tt; batch = placed batch index p }
+unfolding first
 accepted p c small e batch index h =
     let g = taken-good p c e in
     let x : Tx = pageTx p in
     let s = faults.sound p g in
     let v = value-padded x in
-    let lengths : countFault (padded x .r) (padded x .w) ≡ 0 = unfold padded in (rw (on.count-reads p, on.count-writes p) (s .head .counts)) in
-    let none : writeFault (padded x) index (length batch / 512) ≡ 0 =
-    faults.wrong-index batch index (padded x) lengths (ap entryFault v ∙ s .entries) ∙ ap (λ (b : Bool). fault 17 (not b)) (lt-ltb index (length batch / 512) h) in
+    let lengths : first (countRows (padded x .r) (padded x .w)) ≡ clear = unfold padded in (rw (on.count-reads p, on.count-writes p) (s .head .counts)) in
+    let none : writeFault (padded x) index (length batch / 512) ≡ clear =
+    faults.wrong-index batch index (padded x) lengths (ap (λ (y : Tx). first (entryRows y)) v ∙ s .entries) ∙ row-passed (indexRow index (length batch / 512)) [] (ap not (lt-ltb index (length batch / 512) h)) in
     ap (λ (t : Transaction). writePage batch index t) (ap (λ (k : Taken). k .transaction) (good-taken p g))
     ∙ sym (faults.write-done batch index (padded x) none)
     ∙ ap (λ (l : List ℕ). record { answer = gives tt; batch = placed batch index l }) (ap pageOf v ∙ page-exact p small g)

@@ -3,16 +3,17 @@ use mathlib.Core.List.{[], _∷_}
 use mathlib.Core.Path.{refl}
 use lib.IntN.{pos}
 use Rattle.refusals.specs.Outcome.{gives, refuses}
+use Rattle.refusals.specs.Fault.{first, rowsFrom, moved}
 use Rattle.ledger.specs.Version.{at}
 use Rattle.lists.specs.Search.{seek, firstIn}
 use Rattle.tonnage.specs.Text.{follow, size, laid, form, figure}
-use Rattle.tonnage.specs.Services.{readText}
+use Rattle.tonnage.specs.Services.{readRows, readText}
 use Rattle.ledger.specs.Bytes.{field, weighed, le, flat, tab}
 use Rattle.ledger.specs.Tx.{valueTx, padded, floorOf}
-use Rattle.ledger.specs.Page.{countFault, entryFault, headFault, pageFault, pageTx, bodyOf, pageOf}
-use Rattle.ledger.specs.Services.{readPage, writeFault, writePage}
-use Rattle.ledger.specs.State.{entry, store}
-use Rattle.ledger.specs.Gate.{lowest, pagesFault, gateFault, txs}
+use Rattle.ledger.specs.Page.{countRows, entryRows, headRows, wholeRows, pageRows, pageTx, bodyOf, pageOf}
+use Rattle.ledger.specs.Services.{readPage, writeRows, writePage}
+use Rattle.ledger.specs.State.{entry, store, stateRows}
+use Rattle.ledger.specs.Gate.{pagesRows, gateRows, txs}
 use Rattle.ledger.specs.Commit.{passes, write, afterPage, commit as commitAll, verdicts, passed, commits, commitBatch}
 use Rattle.orders.specs.Chain.{joined, cyclic}
 use Rattle.orders.specs.Admission.{admit}
@@ -24,8 +25,8 @@ use Rattle.claims.specs.Cases.{text, plan, commit, written, Holds, Hold,
 
 -- every case that document 01 marks P holds of the definitions that the promises cite
 pub cases : Hold table
-unfolding ascii readText form laid firstIn seek size follow figure writePage writeFault countFault entryFault valueTx floorOf pageOf bodyOf weighed le flat tab readPage pageFault headFault pageTx field padded
-    batchOf gateFault lowest pagesFault txs entry store passes write afterPage commitAll verdicts passed commits commitBatch
+unfolding first rowsFrom moved ascii readText readRows form laid firstIn seek size follow figure writePage writeRows countRows entryRows valueTx floorOf pageOf bodyOf weighed le flat tab readPage pageRows wholeRows headRows pageTx field padded
+    batchOf gateRows stateRows pagesRows txs entry store passes write afterPage commitAll verdicts passed commits commitBatch
     joined cyclic admit lowestTicket without arrange byTicket free schedule upto readerOf before sequence kept verdict order gathered plans planBatch
 cases = (
   refl,

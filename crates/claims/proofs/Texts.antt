@@ -7,15 +7,16 @@ use mathlib.Core.Logic.{_⊎_, inl, inr, _↔_}
 use mathlib.Core.Path.{_≡_, refl, sym, ap, _∙_}
 use lib.ListN.{length, take, drop}
 use lib.IntN.{ℤ}
-use lib.Dec.{leb}
+use lib.Dec.{ltb}
 use lib.Seq.{take-append-seam}
-use borrow.Author.Tests.{leb-true, leb-false}
+use borrow.Author.Tests.{ltb-true, ltb-false}
 use Rattle.lists.specs.Choice.{pick}
 use Rattle.refusals.specs.Outcome.{gives, refuses}
+use Rattle.refusals.specs.Fault.{first}
 use Rattle.lists.specs.Search.{seek, firstIn}
 use Rattle.tonnage.specs.Text.{follow, size, laid, form, figure, textOf}
 use Rattle.tonnage.specs.Grammar.{Tonnage}
-use Rattle.tonnage.specs.Services.{in64, readText, Written, writeText}
+use Rattle.tonnage.specs.Services.{in64, readRows, readText, Written, writeRows, writeText}
 use Rattle.tonnage.proofs.RoundTrip.{accepted-written, written-accepted}
 use Rattle.tonnage.proofs.Sentence.{grammar-form}
 use Rattle.lists.specs.Ascii.{ascii}
@@ -27,8 +28,10 @@ use Rattle.claims.proofs.Table.{text-no-comma}
 module _ (text : List ℕ) where
   -- what is read, by the two tests
   judged : (f i : Bool) → form text ≡ f → in64 (figure text) ≡ i → readText text ≡ pick f (pick i (gives (figure text)) (refuses 19 0)) (refuses 18 0)
-  unfolding readText
-  judged f i h k = rw (h, k)
+  unfolding readText readRows first
+  judged true true h k = rw (h, k)
+  judged true false h k = rw (h, k)
+  judged false i h k = rw h
 
   spelt : form text ≡ true → Tonnage text
   spelt h = grammar-form text .1 h
@@ -68,7 +71,7 @@ pub given-18 : readText (ascii "684") ≡ refuses 18 0
 given-18 = text-no-comma
 
 pub given-19 : readText (ascii "9223372036854775,808") ≡ refuses 19 0
-unfolding ascii readText form laid firstIn seek size follow figure
+unfolding ascii readText readRows first form laid firstIn seek size follow figure
 given-19 = refl
 
 -- ---- reading and writing: demand 2, "tonnage texts read back as written, and one that is accepted is exactly what our writer would write"
@@ -85,36 +88,37 @@ module _ (buffer : List ℕ) (z : ℤ) where
   unfit = record { answer = refuses 20 0; text = buffer }
 
   -- what is written, by the test of the length
-  done : (b : Bool) → leb (length (textOf z)) (length buffer) ≡ b → writeText buffer z ≡ pick b fit unfit
-  unfolding writeText
-  done b h = rw h
+  done : (b : Bool) → ltb (length buffer) (length (textOf z)) ≡ b → writeText buffer z ≡ pick b unfit fit
+  unfolding writeText writeRows first
+  done true h = rw h
+  done false h = rw h
 
   -- what the writer wrote for a figure of 64 bits reads back as that figure
   pub reads-back : (n : ℕ) → in64 z ≡ true → writeText buffer z .answer ≡ gives n → readText (take n (writeText buffer z .text)) ≡ gives z
-  reads-back n h e = go (leb (length (textOf z)) (length buffer)) refl
+  reads-back n h e = go (ltb (length buffer) (length (textOf z))) refl
     where
-      go : (b : Bool) → leb (length (textOf z)) (length buffer) ≡ b → readText (take n (writeText buffer z .text)) ≡ gives z
-      go true k =
-          let long : length (textOf z) ≡ n = value (ap (λ (w : Written). w .answer) (done true k)) e in
-          rw (done true k, ← long, take-append-seam (textOf z) (drop (length (textOf z)) buffer)) (written-accepted z h)
-      go false k = absurd (apart e (ap (λ (w : Written). w .answer) (done false k)))
+      go : (b : Bool) → ltb (length buffer) (length (textOf z)) ≡ b → readText (take n (writeText buffer z .text)) ≡ gives z
+      go false k =
+          let long : length (textOf z) ≡ n = value (ap (λ (w : Written). w .answer) (done false k)) e in
+          rw (done false k, ← long, take-append-seam (textOf z) (drop (length (textOf z)) buffer)) (written-accepted z h)
+      go true k = absurd (apart e (ap (λ (w : Written). w .answer) (done true k)))
 
   -- ---- writing: demand 1
 
   -- 20: "text buffer shorter than the text"
   pub refused-20 : (writeText buffer z .answer ≡ refuses 20 0) ↔ (length buffer < length (textOf z))
-  refused-20 = go (leb (length (textOf z)) (length buffer)) refl
+  refused-20 = go (ltb (length buffer) (length (textOf z))) refl
     where
-      go : (b : Bool) → leb (length (textOf z)) (length buffer) ≡ b → (writeText buffer z .answer ≡ refuses 20 0) ↔ (length buffer < length (textOf z))
-      go true k = (λ e. absurd (apart (ap (λ (w : Written). w .answer) (done true k)) e), λ l. absurd (omega (arith, leb-true (length (textOf z)) (length buffer) k)))
-      go false k = (λ e. leb-false (length (textOf z)) (length buffer) k, λ l. ap (λ (w : Written). w .answer) (done false k))
+      go : (b : Bool) → ltb (length buffer) (length (textOf z)) ≡ b → (writeText buffer z .answer ≡ refuses 20 0) ↔ (length buffer < length (textOf z))
+      go false k = (λ e. absurd (apart (ap (λ (w : Written). w .answer) (done false k)) e), λ l. absurd (omega (arith, ltb-false (length buffer) (length (textOf z)) k)))
+      go true k = (λ e. ltb-true (length buffer) (length (textOf z)) k, λ l. ap (λ (w : Written). w .answer) (done true k))
 
   -- nothing else is refused, and what is refused leaves the buffer as it was
   pub refused-unchanged : (n p : ℕ) → writeText buffer z .answer ≡ refuses n p → (n ≡ 20) × (p ≡ 0) × (writeText buffer z .text ≡ buffer)
-  refused-unchanged n p e = go (leb (length (textOf z)) (length buffer)) refl
+  refused-unchanged n p e = go (ltb (length buffer) (length (textOf z))) refl
     where
-      go : (b : Bool) → leb (length (textOf z)) (length buffer) ≡ b → (n ≡ 20) × (p ≡ 0) × (writeText buffer z .text ≡ buffer)
-      go true k = absurd (apart (ap (λ (w : Written). w .answer) (done true k)) e)
-      go false k =
-          let f = ap (λ (w : Written). w .answer) (done false k) in
-          (sym (number f e), sym (place f e), ap (λ (w : Written). w .text) (done false k))
+      go : (b : Bool) → ltb (length buffer) (length (textOf z)) ≡ b → (n ≡ 20) × (p ≡ 0) × (writeText buffer z .text ≡ buffer)
+      go false k = absurd (apart (ap (λ (w : Written). w .answer) (done false k)) e)
+      go true k =
+          let f = ap (λ (w : Written). w .answer) (done true k) in
+          (sym (number f e), sym (place f e), ap (λ (w : Written). w .text) (done true k))

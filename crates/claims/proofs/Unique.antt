@@ -44,17 +44,13 @@ one-answer (Length m) (NoText z) b c e = cc
 one-answer (NoText y) (Length n) b c e = cc
 one-answer (NoText y) (NoText z) b c e = ap NoText (same-refusal y z (cc) (cc))
 
-left-text : (r : Writing) (b : List ℕ) → wrote r b .text ≡ b
-left-text (Length n) b = refl
-left-text (NoText q) b = refl
-
 -- writing a tonnage text: the answer, and the lent buffer
 pub write-tonnage :
     (buffer : List ℕ) (z : ℤ) (r q : Writing) (b c : List ℕ) →
     wrote r b ≡ writeText buffer z → wrote q c ≡ writeText buffer z → (r ≡ q) × (b ≡ c)
 write-tonnage buffer z r q b c h k =
     let e = h ∙ sym k in
-    (one-answer r q b c (ap (λ (w : WrittenText). w .answer) e), sym (left-text r b) ∙ ap (λ (w : WrittenText). w .text) e ∙ left-text q c)
+    (one-answer r q b c (ap (λ (w : WrittenText). w .answer) e), ap (λ (w : WrittenText). w .text) e)
 
 -- ---- pages
 
@@ -62,9 +58,9 @@ one-check : (x y : PageCheck) → checked x ≡ checked y → x ≡ y
 one-check (Good r w) (Good q v) e =
     let c : _≡_ {A = Counts} (record { reads = r; writes = w }) (record { reads = q; writes = v }) = cc in
     ap₂ Good (ap (λ (k : Counts). k .reads) c) (ap (λ (k : Counts). k .writes) c)
-one-check (Good r w) (Bad n) e = cc
-one-check (Bad n) (Good r w) e = cc
-one-check (Bad m) (Bad n) e = cc
+one-check (Good r w) (Bad q) e = cc
+one-check (Bad q) (Good r w) e = cc
+one-check (Bad r) (Bad q) e = ap Bad (same-refusal r q (cc) (cc))
 
 -- checking a page
 pub check-page : (page : List ℕ) (x y : PageCheck) → checked x ≡ checkPage page → checked y ≡ checkPage page → x ≡ y
@@ -83,17 +79,13 @@ one-put Written (Unwritten r) b c e = cc
 one-put (Unwritten r) Written b c e = cc
 one-put (Unwritten r) (Unwritten q) b c e = ap Unwritten (same-refusal r q (cc) (cc))
 
-left-batch : (x : PageWrite) (b : List ℕ) → put x b .batch ≡ b
-left-batch Written b = refl
-left-batch (Unwritten r) b = refl
-
 -- writing a page: the answer, and the lent batch
 pub write-page :
     (batch : List ℕ) (index : ℕ) (t : Transaction) (x y : PageWrite) (b c : List ℕ) →
     put x b ≡ writePage batch index t → put y c ≡ writePage batch index t → (x ≡ y) × (b ≡ c)
 write-page batch index t x y b c h k =
     let e = h ∙ sym k in
-    (one-put x y b c (ap (λ (w : Put). w .answer) e), sym (left-batch x b) ∙ ap (λ (w : Put). w .batch) e ∙ left-batch y c)
+    (one-put x y b c (ap (λ (w : Put). w .answer) e), ap (λ (w : Put). w .batch) e)
 
 -- ---- batches
 

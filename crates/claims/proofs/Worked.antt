@@ -8,7 +8,8 @@ use mathlib.Core.Path.{_≡_, refl, sym, ap, _∙_}
 use lib.ListN.{length, getD, take}
 use lib.Dec.{T, ltb, ltb→lt}
 use Rattle.refusals.specs.Outcome.{gives}
-use Rattle.refusals.specs.Fault.{clear}
+use Rattle.refusals.specs.Fault.{clear, rowsFrom}
+use Rattle.refusals.specs.Fault.{first as firstOf}
 use Rattle.lists.specs.Search.{seek, firstIn}
 use Rattle.lists.specs.Members.{all, upto}
 use Rattle.lists.specs.Ascii.{ascii}
@@ -17,9 +18,9 @@ use Rattle.tonnage.specs.Text.{digits, widthIn, width, textOf}
 use Rattle.ledger.specs.declared.Write.{Write}
 use Rattle.ledger.specs.Bytes.{field, weighed, le, flat, tab}
 use Rattle.ledger.specs.Tx.{Tx, floorOf}
-use Rattle.ledger.specs.Page.{countFault, entryFault, pageTx, bodyOf, pageOf}
+use Rattle.ledger.specs.Page.{countRows, entryRows, pageTx, bodyOf, pageOf}
 use Rattle.ledger.specs.State.{State, gone, keys, entry, store}
-use Rattle.ledger.specs.Gate.{pages, txAt, lowest}
+use Rattle.ledger.specs.Gate.{pages, txAt}
 use Rattle.ledger.specs.Commit.{left, passes, write}
 use Rattle.ledger.proofs.Commits.{Kept, kept-self, kept-more, write-kept}
 use Rattle.orders.specs.Chain.{joined, cyclic}
@@ -122,7 +123,7 @@ from-sheet : (xs : List Tx) (k : ℕ) (text : List ℕ) → length xs ≤ 64 →
 from-sheet xs k text h l s = shown-few (batchOf xs) k 10 1014 refl (open-gate xs (s .sound) h (s .clean)) (s .count) l (s .below) ∙ s .reads
 
 sheets : Sheet five 3 nineLines × Sheet correction 2 letterLines
-unfolding start batchOf firstIn seek countFault entryFault floorOf pageOf bodyOf weighed le flat tab pageTx field lowest entry store passes write run
+unfolding start batchOf firstIn seek firstOf rowsFrom countRows entryRows floorOf pageOf bodyOf weighed le flat tab pageTx field entry store passes write run
     joined cyclic admit lowestTicket without arrange byTicket free schedule upto reader before sequence kept verdict order plans
     header placed pageLine stateLine keyLine digits widthIn width textOf ascii
 sheets = (

@@ -84,7 +84,7 @@ fn refused(page: &[u8], expected: u32) -> bool {
             reads: _,
             writes: _,
         } => 0,
-        PageCheck::Bad { number } => number,
+        PageCheck::Bad { refusal } => refusal.number,
     };
     let read = ledger::page::read::read_page(page);
     let found = read.check;
@@ -93,7 +93,7 @@ fn refused(page: &[u8], expected: u32) -> bool {
             reads: _,
             writes: _,
         } => 0,
-        PageCheck::Bad { number } => number,
+        PageCheck::Bad { refusal } => refusal.number,
     };
     check == expected && read == expected
 }

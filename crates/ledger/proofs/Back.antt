@@ -15,14 +15,16 @@ use Rattle.lists.proofs.Searches.{seek-none}
 use Rattle.ledger.specs.declared.Transaction.{Transaction}
 use Rattle.ledger.specs.Bytes.{field, le, weighed, set?, tab, flat, Small}
 use Rattle.ledger.specs.Tx.{Tx, noRead, noWrite, readOf, writeOf, valueTx, ReadFits, WriteFits, TransactionFits}
-use Rattle.ledger.specs.Page.{readCount, writeCount, size, fault, _then_, readAt, writeAt, readBytes, writeBytes, bodyOf, pageOf, pageTx, countFault, headFault, entryFault, pageFault}
+use Rattle.ledger.specs.Page.{readCount, writeCount, size, readAt, writeAt, readBytes, writeBytes, bodyOf, pageOf, pageTx, countRows, headRows, entryRows, spareRow, pageFault}
 use Rattle.ledger.proofs.Numbers.{check-most}
 use Rattle.ledger.proofs.OnPage.{tab-same, tab-list}
 use Rattle.ledger.proofs.Stored.{length-read, length-write}
 use Rattle.ledger.proofs.Fields.{field-skip, field-front, field-le, entry-first, entry-second, entry-third, entry-field, small-le, small-cons, small-append, small-entry, small-flat, small-zeros}
 use Rattle.ledger.proofs.Laid.{front, upToWrites, upToSpare, length-front, length-two, length-three, length-body, length-whole, weighed-front}
 use Rattle.ledger.proofs.Valued.{read-of, write-of}
-use Rattle.ledger.proofs.Faults.{Roomy, roomy, then-none, by-spare}
+use Rattle.refusals.specs.Fault.{clear, first}
+use Rattle.refusals.proofs.Rows.{row-passed}
+use Rattle.ledger.proofs.Faults.{Roomy, roomy, headFault, by-spare}
 
 -- the entries of a transaction are within the ranges of their types
 pub record Fitting (x : Tx) : Type 0 where
@@ -180,18 +182,19 @@ module _ (x : Tx) where
         let none : seek (set? (pageOf x)) a (508 - a) ≡ a + (508 - a) = seek-none (set? (pageOf x)) a (508 - a) (λ j l. rw (spare-byte j (omega arith))) in
         le-ltb (seek (set? (pageOf x)) a (508 - a)) 508 (omega (arith, none, n .room))
 
-    headed-back : countFault r w ≡ 0 → headFault (pageOf x) ≡ 0
-    unfolding headFault
+    headed-back : first (countRows r w) ≡ clear → headFault (pageOf x) ≡ clear
+    unfolding headRows first
     headed-back e = rw (eq-eqb _ _ long-page, eq-eqb _ _ check-back, mark-back, three-back, r-back, w-back) e
 
 -- a transaction with no fault: its page has none, and holds it
-pub good-back : (x : Tx) → Fitting x → countFault (length (x .reads)) (length (x .writes)) ≡ 0 → entryFault x ≡ 0
-    → (pageFault (pageOf x) ≡ 0) × (pageTx (pageOf x) ≡ x)
+pub good-back : (x : Tx) → Fitting x → first (countRows (length (x .reads)) (length (x .writes))) ≡ clear → first (entryRows x) ≡ clear
+    → (pageFault (pageOf x) ≡ clear) × (pageTx (pageOf x) ≡ x)
+unfolding first
 good-back x fits e h =
     let n = roomy _ _ e in
-    let spare : fault 10 (someIn (set? (pageOf x)) (8 + size (readCount (pageOf x)) (writeCount (pageOf x))) 508) ≡ 0 =
-    rw (r-back x, w-back x, spare-back x n) in
-    (by-spare (pageOf x) (headed-back x n e) (ap entryFault (tx-back x fits) ∙ h) ∙ spare, tx-back x fits)
+    let spare : someIn (set? (pageOf x)) (8 + size (readCount (pageOf x)) (writeCount (pageOf x))) 508 ≡ false =
+    rw (r-back x, w-back x) (spare-back x n) in
+    (by-spare (pageOf x) (headed-back x n e) (ap (λ y. first (entryRows y)) (tx-back x fits) ∙ h) ∙ row-passed (spareRow (pageOf x)) [] spare, tx-back x fits)
 
 -- what a value of the program holds, within its counts
 module _ (t : Transaction) where
@@ -215,15 +218,13 @@ module _ (t : Transaction) where
   }
 
 -- fewer entries have room too
-room-less : (r w a b : ℕ) → a ≤ r → b ≤ w → countFault r w ≡ 0 → countFault a b ≡ 0
-unfolding countFault
+room-less : (r w a b : ℕ) → a ≤ r → b ≤ w → first (countRows r w) ≡ clear → first (countRows a b) ≡ clear
+unfolding countRows first
 room-less r w a b h k e =
     let n = roomy r w e in
     rw (le-ltb 32 a (omega arith), le-ltb 32 b (omega arith), le-ltb 500 (size a b) (omega arith))
 
 -- what is written is good and holds what was written
-pub page-back : (t : Transaction) → TransactionFits t → (countFault (t .r) (t .w) then entryFault (valueTx t)) ≡ 0
-    → (pageFault (pageOf (valueTx t)) ≡ 0) × (pageTx (pageOf (valueTx t)) ≡ valueTx t)
-page-back t fits e =
-    let h = then-none (countFault (t .r) (t .w)) (entryFault (valueTx t)) e in
-    good-back (valueTx t) (fitting t fits) (room-less (t .r) (t .w) _ _ (reads-few t) (writes-few t) (h .0)) (h .1)
+pub page-back : (t : Transaction) → TransactionFits t → first (countRows (t .r) (t .w)) ≡ clear → first (entryRows (valueTx t)) ≡ clear
+    → (pageFault (pageOf (valueTx t)) ≡ clear) × (pageTx (pageOf (valueTx t)) ≡ valueTx t)
+page-back t fits c e = good-back (valueTx t) (fitting t fits) (room-less (t .r) (t .w) _ _ (reads-few t) (writes-few t) c) e

@@ -18,6 +18,7 @@ use Rattle.lists.proofs.Tests.{eqb-not}
 use Rattle.lists.proofs.Membership.{those-append}
 use Rattle.refusals.specs.Outcome.{Outcome, gives, refuses}
 use Rattle.refusals.specs.Fault.{clear}
+use Rattle.refusals.proofs.Rows.{judged-gives, judged-refuses}
 use Rattle.ledger.specs.declared.Version.{Version}
 use Rattle.ledger.specs.declared.Write.{Write}
 use Rattle.ledger.specs.declared.Committed.the-variants.{Passed}
@@ -29,7 +30,7 @@ use Rattle.ledger.specs.State.{State, Entry, Level, gone, keys, store}
 use Rattle.ledger.specs.Gate.{pages, txAt, txs, gateFault, gate, Batch}
 use Rattle.ledger.specs.Commit.{names, passes, left, write, afterPage, verdict, commit, verdicts, passed, commits, commitBatch, committed}
 use Rattle.ledger.proofs.OnPage.{length-tab}
-use Rattle.ledger.proofs.Gated.{judged-gives, judged-refuses, Through, gate-open}
+use Rattle.ledger.proofs.Gated.{Through, gate-open}
 
 -- ---- one more at the end
 

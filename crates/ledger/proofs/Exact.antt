@@ -7,6 +7,7 @@ use lib.ListN.{length, take, drop, replicate, take-append-drop}
 use lib.Seq.{take-all, take-add, length-take-le}
 use mir.Syntax.{w64}
 use mir.Facts.{ofZ-toZ}
+use Rattle.refusals.specs.Fault.{clear}
 use Rattle.ledger.specs.Bytes.{field, weighed, flat, Small}
 use Rattle.ledger.specs.Tx.{readOf, writeOf}
 use Rattle.ledger.specs.Page.{readCount, writeCount, size, readAt, writeAt, pageTx, readBytes, writeBytes, headBytes, bodyOf, pageOf, pageFault}
@@ -69,7 +70,7 @@ module _ (p : List ℕ) (small : Small p) where
         ∙ ap (λ (n : ℕ). take n p) whole)
 
 -- a good page is exactly the page of the transaction on it
-pub page-exact : (p : List ℕ) → Small p → pageFault p ≡ 0 → pageOf (pageTx p) ≡ p
+pub page-exact : (p : List ℕ) → Small p → pageFault p ≡ clear → pageOf (pageTx p) ≡ p
 unfolding pageOf
 page-exact p small e =
     let o = sound p e in

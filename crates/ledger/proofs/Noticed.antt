@@ -8,6 +8,7 @@ use native.Mathlib.Decide.{decLe, decLt, ℕ-discrete}
 use native.Mathlib.Omega.{arith}
 use lib.ListN.{length, getD, drop, set, length-set}
 use lib.Seq.{getD-set-same, getD-set-other, getD-take, getD-drop, set-comm}
+use Rattle.refusals.specs.Fault.{clear}
 use Rattle.ledger.specs.Bytes.{field, le, weighed, Small}
 use Rattle.ledger.specs.Page.{pageFault}
 use Rattle.ledger.proofs.Parts.{part, le-field}
@@ -63,7 +64,7 @@ module _ (p : List ℕ) (long : length p ≡ 512) (agrees : Agrees p) (i b : ℕ
       other (sym (getD-set-same p i b 0 (omega arith)) ∙ sym (at-part (set p i b) i h l) ∙ ap (λ (x : List ℕ). getD x (i - 508) 0) parts ∙ at-part p i h l)
 
 -- a change of any one byte of an accepted page is refused
-pub one-byte : (p : List ℕ) → Small p → pageFault p ≡ 0 → (i b : ℕ) → i < 512 → b < 256 → (b ≡ getD p i 0 → ⊥) → pageFault (set p i b) ≡ 0 → ⊥
+pub one-byte : (p : List ℕ) → Small p → pageFault p ≡ clear → (i b : ℕ) → i < 512 → b < 256 → (b ≡ getD p i 0 → ⊥) → pageFault (set p i b) ≡ clear → ⊥
 one-byte p small e i b l byte other f =
     let g = sound p e .head in
     let s = sound (set p i b) f .head .sum in
@@ -86,8 +87,8 @@ module _ (p : List ℕ) (long : length p ≡ 512) (agrees : Agrees p) (i j : ℕ
       other (cancel k x y (omega arith) (omega (arith, one, three, same)))
 
 -- and in either order
-pub exchange : (p : List ℕ) → Small p → pageFault p ≡ 0 → (i j : ℕ) → i < 508 → j < 508 → (getD p i 0 ≡ getD p j 0 → ⊥)
-    → pageFault (set (set p i (getD p j 0)) j (getD p i 0)) ≡ 0 → ⊥
+pub exchange : (p : List ℕ) → Small p → pageFault p ≡ clear → (i j : ℕ) → i < 508 → j < 508 → (getD p i 0 ≡ getD p j 0 → ⊥)
+    → pageFault (set (set p i (getD p j 0)) j (getD p i 0)) ≡ clear → ⊥
 exchange p small e i j li lj other f =
     let g = sound p e .head in
     let apart : (i ≡ j → ⊥) = λ q. other (ap (λ (k : ℕ). getD p k 0) q) in

@@ -12,10 +12,12 @@ use borrow.Author.Tests.{ltb-true, ltb-false, lt-ltb, le-ltb, not-false}
 use Rattle.lists.specs.Search.{someIn}
 use Rattle.lists.proofs.Searches.{missed, none-at, some-at, any-search}
 use Rattle.ledger.specs.Tx.{Tx, noRead, noWrite, readOf, writeOf, floorOf}
-use Rattle.ledger.specs.Page.{fault, entryFault, pageFault, pageTx}
+use Rattle.refusals.specs.Fault.{clear, first}
+use Rattle.refusals.proofs.Rows.{row-none}
+use Rattle.ledger.specs.Page.{entryRows, pageFault, pageTx}
 use Rattle.ledger.specs.Gate.{beyond}
 use Rattle.ledger.proofs.Turns.{outOfTurn}
-use Rattle.ledger.proofs.Faults.{then-none, fault-none, or-none, six, seven, eight, nine, sound}
+use Rattle.ledger.proofs.Faults.{or-none, six, seven, eight, nine, sound}
 
 -- ---- keys of which none is out of turn
 
@@ -69,18 +71,13 @@ pub record Entered (x : Tx) : Type 0 where
   pub no-eight : eight x ≡ false
   pub no-nine : nine x ≡ false
 
-pub entered : (x : Tx) → entryFault x ≡ 0 → Entered x
-unfolding entryFault
+pub entered : (x : Tx) → first (entryRows x) ≡ clear → Entered x
+unfolding entryRows
 entered x e =
-    let a = then-none (fault 6 (six x)) _ e in
-    let b = then-none (fault 7 (seven x)) _ (a .1) in
-    let c = then-none (fault 8 (eight x)) (fault 9 (nine x)) (b .1) in
-    record {
-      no-six = fault-none 5 (six x) (a .0);
-      no-seven = fault-none 6 (seven x) (b .0);
-      no-eight = fault-none 7 (eight x) (c .0);
-      no-nine = fault-none 8 (nine x) (c .1);
-    }
+    let a = row-none _ _ e in
+    let b = row-none _ _ (a .1) in
+    let c = row-none _ _ (b .1) in
+    record { no-six = a .0; no-seven = b .0; no-eight = c .0; no-nine = row-none _ _ (c .1) .0 }
 
 abbrev pub readKey : Tx → ℕ → ℕ
 readKey x i = readOf (x .reads) i .key
@@ -88,7 +85,7 @@ readKey x i = readOf (x .reads) i .key
 abbrev pub writeKey : Tx → ℕ → ℕ
 writeKey x i = writeOf (x .writes) i .key
 
-module _ (p : List ℕ) (good : pageFault p ≡ 0) where
+module _ (p : List ℕ) (good : pageFault p ≡ clear) where
   pub read-keys : Rising (readKey (pageTx p)) (length (pageTx p .reads))
   read-keys = rising _ _ (entered _ (sound p good .entries) .no-six)
 

@@ -1,4 +1,4 @@
--- Document 01, 'Page layout': the transaction on a page, the page of a transaction, and the faults of a page in turn. Assumes nothing.
+-- Document 01, 'Page layout': the transaction on a page, the page of a transaction, and the table of a page's refusals. Assumes nothing.
 use Prim.Native.Nat.{ℕ, _+_, _-_, _*_, _≤_}
 use mathlib.Core.Bool.{Bool, not, _||_, _&&_}
 use mathlib.Core.List.{List, [], _∷_, _++_}
@@ -7,8 +7,8 @@ use lib.ListN.{length, getD, take, drop, replicate}
 use lib.Dec.{eqb, ltb}
 use mir.Syntax.{w64}
 use mir.Val.{toZ, ofZ}
-use Rattle.lists.specs.Choice.{pick}
 use Rattle.lists.specs.Search.{someIn}
+use Rattle.refusals.specs.Fault.{Fault, Row, row, first}
 use Rattle.ledger.specs.declared.Read.{Read}
 use Rattle.ledger.specs.declared.Write.{Write}
 use Rattle.ledger.specs.Bytes.{field, le, weighed, set?, tab, flat}
@@ -67,44 +67,50 @@ bodyOf x =
 unfoldable pub pageOf : Tx → List ℕ
 pageOf x = bodyOf x ++ le 4 (weighed (bodyOf x) 508)
 
--- ---- faults: a refusal number, 0 where there is none
-
--- number n where the test holds
-abbrev pub fault : ℕ → Bool → ℕ
-fault n holds = pick holds n 0
-
--- the first fault, and only where there is none the second
-infixr 20 _then_
-abbrev pub _then_ : ℕ → ℕ → ℕ
-a then b = pick (eqb a 0) b a
+-- ---- the table of a page, in turn
 
 -- "4: r or w above 32"; "5: 8r + 12w above 500"
-unfoldable pub countFault : ℕ → ℕ → ℕ
-countFault r w = fault 4 (ltb 32 r || ltb 32 w) then fault 5 (ltb 500 (size r w))
+unfoldable pub countRows : ℕ → ℕ → List Row
+countRows r w =
+    row 4 0 (ltb 32 r || ltb 32 w) ∷
+    row 5 0 (ltb 500 (size r w)) ∷
+    []
 
 -- "6: read keys not rising, or above 1023"; "7: read version of another form"; "8: write keys ..";
 -- "9: kind neither 0 nor 1, or delete with value"
-unfoldable pub entryFault : Tx → ℕ
-entryFault x =
-    fault 6 (someIn (readOutOfTurn (x .reads)) 0 (length (x .reads)))
-    then fault 7 (someIn (λ i. wrongVersion (readOf (x .reads) i .version)) 0 (length (x .reads)))
-    then fault 8 (someIn (writeOutOfTurn (x .writes)) 0 (length (x .writes)))
-    then fault 9 (someIn (λ i. wrongKind (writeOf (x .writes) i)) 0 (length (x .writes)))
+unfoldable pub entryRows : Tx → List Row
+entryRows x =
+    row 6 0 (someIn (readOutOfTurn (x .reads)) 0 (length (x .reads))) ∷
+    row 7 0 (someIn (λ i. wrongVersion (readOf (x .reads) i .version)) 0 (length (x .reads))) ∷
+    row 8 0 (someIn (writeOutOfTurn (x .writes)) 0 (length (x .writes))) ∷
+    row 9 0 (someIn (λ i. wrongKind (writeOf (x .writes) i)) 0 (length (x .writes))) ∷
+    []
 
--- "1: page not of 512 bytes"; "2: check differs"; "3: mark or byte 3 wrong"; then 4 and 5
-unfoldable pub headFault : List ℕ → ℕ
-headFault p =
-    fault 1 (not (eqb (length p) 512))
-    then fault 2 (not (eqb (weighed p 508) (field p 508 4)))
-    then fault 3 (not (eqb (getD p 0 0) 0x54 && eqb (getD p 3 0) 0))
-    then countFault (readCount p) (writeCount p)
+-- "2: check differs"; "3: mark or byte 3 wrong"; then 4 and 5
+unfoldable pub headRows : List ℕ → List Row
+headRows p =
+    row 2 0 (not (eqb (weighed p 508) (field p 508 4))) ∷
+    row 3 0 (not (eqb (getD p 0 0) 0x54 && eqb (getD p 3 0) 0)) ∷
+    countRows (readCount p) (writeCount p)
 
--- "Reading a page: 1 to 10 in turn"; "10: spare byte not zero"
-unfoldable pub pageFault : List ℕ → ℕ
-pageFault p =
-    headFault p
-    then entryFault (pageTx p)
-    then fault 10 (someIn (set? p) (8 + size (readCount p) (writeCount p)) 508)
+-- "1: page not of 512 bytes"
+abbrev pub lengthRow : List ℕ → Row
+lengthRow p = row 1 0 (not (eqb (length p) 512))
+
+-- "10: spare byte not zero"
+abbrev pub spareRow : List ℕ → Row
+spareRow p = row 10 0 (someIn (set? p) (8 + size (readCount p) (writeCount p)) 508)
+
+-- 2 to 10: a page that has its length
+unfoldable pub wholeRows : List ℕ → List Row
+wholeRows p = headRows p ++ (entryRows (pageTx p) ++ (spareRow p ∷ []))
+
+-- "Reading a page: 1 to 10 in turn, page 0."
+unfoldable pub pageRows : List ℕ → List Row
+pageRows p = lengthRow p ∷ wholeRows p
+
+abbrev pub pageFault : List ℕ → Fault
+pageFault p = first (pageRows p)
 
 -- a page of 512 bytes whose counts are good: what reading it where it lies asks
 pub record Counted (p : List ℕ) : Type 0 where

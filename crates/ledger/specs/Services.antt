@@ -1,11 +1,11 @@
 -- What the services on pages answer, for every input. Assumes nothing.
 use Prim.Native.Nat.{ℕ, _/_}
 use mathlib.Core.Bool.{not}
-use mathlib.Core.List.{List}
+use mathlib.Core.List.{List, [], _∷_, _++_}
 use lib.ListN.{length, replicate}
-use lib.Dec.{eqb, ltb}
-use Rattle.lists.specs.Choice.{pick}
+use lib.Dec.{ltb}
 use Rattle.refusals.specs.Outcome.{Outcome, gives, refuses}
+use Rattle.refusals.specs.Fault.{Fault, Row, row, first, judged, after}
 use Rattle.ledger.specs.declared.Transaction.{Transaction}
 use Rattle.ledger.specs.declared.PageCheck.{PageCheck}
 use Rattle.ledger.specs.declared.PageCheck.the-variants.{Good, Bad}
@@ -13,7 +13,7 @@ use Rattle.ledger.specs.declared.PageRead.{PageRead}
 use Rattle.ledger.specs.declared.PageWrite.{PageWrite}
 use Rattle.ledger.specs.declared.PageWrite.the-variants.{Written, Unwritten}
 use Rattle.ledger.specs.Tx.{valueTx, padded, noRead, noWrite}
-use Rattle.ledger.specs.Page.{fault, _then_, countFault, entryFault, pageTx, pageFault, pageOf, placed}
+use Rattle.ledger.specs.Page.{countRows, entryRows, pageTx, pageFault, pageOf, placed}
 
 -- ---- checking a page
 
@@ -23,15 +23,12 @@ pub record Counts : Type 0 where
   pub writes : ℕ
 
 unfoldable pub checkPage : List ℕ → Outcome Counts
-checkPage p =
-    pick (eqb (pageFault p) 0)
-    (gives (record { reads = length (pageTx p .reads); writes = length (pageTx p .writes) }))
-    (refuses (pageFault p) 0)
+checkPage p = judged (pageFault p) (record { reads = length (pageTx p .reads); writes = length (pageTx p .writes) })
 
 -- the answer of the check as an outcome
 abbrev pub checked : PageCheck → Outcome Counts
 checked (Good r w) = gives (record { reads = r; writes = w })
-checked (Bad n) = refuses n 0
+checked (Bad r) = refuses (r .number) (r .place)
 
 -- ---- reading a page
 
@@ -45,7 +42,7 @@ abbrev pub none : Transaction
 none = record { ticket = 0; r = 0; w = 0; reads = replicate 32 noRead; writes = replicate 32 noWrite }
 
 unfoldable pub readPage : List ℕ → Taken
-readPage p = record { answer = checkPage p; transaction = pick (eqb (pageFault p) 0) (padded (pageTx p)) none }
+readPage p = record { answer = checkPage p; transaction = after (pageFault p) (padded (pageTx p)) none }
 
 abbrev pub taken : PageRead → Taken
 taken x = record { answer = checked (x .check); transaction = x .transaction }
@@ -57,16 +54,26 @@ pub record Put : Type 0 where
   pub answer : Outcome (Unit {0})
   pub batch : List ℕ
 
--- "Writing a page: 4 to 9, then 17"; "17: page index not below the whole pages lent"
-unfoldable pub writeFault : Transaction → ℕ → ℕ → ℕ
-writeFault t index pages = countFault (t .r) (t .w) then entryFault (valueTx t) then fault 17 (not (ltb index pages))
+-- "17: page index not below the whole pages lent"
+abbrev pub indexRow : ℕ → ℕ → Row
+indexRow index pages = row 17 0 (not (ltb index pages))
+
+-- "Writing a page: 4 to 9, then 17, page 0."
+unfoldable pub writeRows : Transaction → ℕ → ℕ → List Row
+writeRows t index pages = countRows (t .r) (t .w) ++ (entryRows (valueTx t) ++ (indexRow index pages ∷ []))
+
+abbrev pub writeFault : Transaction → ℕ → ℕ → Fault
+writeFault t index pages = first (writeRows t index pages)
 
 unfoldable pub writePage : List ℕ → ℕ → Transaction → Put
 writePage batch index t =
-    pick (eqb (writeFault t index (length batch / 512)) 0)
-    (record { answer = gives tt; batch = placed batch index (pageOf (valueTx t)) })
-    (record { answer = refuses (writeFault t index (length batch / 512)) 0; batch = batch })
+    let wrong = writeFault t index (length batch / 512) in
+    record { answer = judged wrong tt; batch = after wrong (placed batch index (pageOf (valueTx t))) batch }
+
+-- the answer of the writer as an outcome, with the batch as it is at the end
+abbrev pub written : PageWrite → Outcome (Unit {0})
+written Written = gives tt
+written (Unwritten r) = refuses (r .number) (r .place)
 
 abbrev pub put : PageWrite → List ℕ → Put
-put Written b = record { answer = gives tt; batch = b }
-put (Unwritten r) b = record { answer = refuses (r .number) (r .place); batch = b }
+put x b = record { answer = written x; batch = b }

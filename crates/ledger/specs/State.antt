@@ -1,13 +1,14 @@
 -- Document 01, 'Ledger state'. Assumes nothing.
 use Prim.Native.Nat.{ℕ}
 use mathlib.Core.Bool.{Bool, not, _&&_, _||_}
-use mathlib.Core.List.{List}
+use mathlib.Core.List.{List, _∷_}
 use mathlib.Core.Path.{_≡_}
 use lib.ListN.{length, getD, set}
 use lib.Dec.{eqb, leb, ltb}
 use lib.IntN.{ℤ, pos}
 use mir.Syntax.{w64}
 use mir.Val.{ofZ}
+use Rattle.refusals.specs.Fault.{Row, row, eachRow}
 use Rattle.ledger.specs.declared.Version.{Version}
 use Rattle.ledger.specs.Version.{absent, at, same, ordinary}
 
@@ -58,7 +59,7 @@ isGone e = same (e .version) absent && eqb (ofZ w64 (e .value)) 0
 abbrev pub wrongEntry : ℕ → Entry → Bool
 wrongEntry n e = not (isGone e || (ordinary (e .version) && ltb (e .version .block) n))
 
--- "12: state lists unequal, empty or over 1024"
+-- three lists that are unequal, empty or over 1024 long
 abbrev pub wrongLengths : State → Bool
 wrongLengths s =
     not
@@ -66,3 +67,9 @@ wrongLengths s =
     && eqb (length (s .blocks)) (length (s .values))
     && ltb 0 (length (s .blocks))
     && leb (length (s .blocks)) 1024)
+
+-- ---- the table of a state, in turn
+
+-- "12: state lists unequal, empty or over 1024"; "13: state entry of another form, or present with block not below n"
+unfoldable pub stateRows : State → ℕ → List Row
+stateRows s n = row 12 0 (wrongLengths s) ∷ eachRow 13 (keys s) (λ k. wrongEntry n (entry s k))

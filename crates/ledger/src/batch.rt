@@ -11,10 +11,10 @@ ghost use lib.ListN.{length, getD};
 ghost use lib.Dec.{eqb};
 ghost use Rattle.lists.specs.Search.{firstIn};
 ghost use Rattle.refusals.specs.Outcome.{refuses};
-ghost use Rattle.refusals.specs.Fault.{judged};
+ghost use Rattle.refusals.specs.Fault.{clear, first, inTurn, judged};
 ghost use Rattle.ledger.specs.Page.{pageAt, pageTx, pageFault};
 ghost use Rattle.ledger.specs.State.{stateOf};
-ghost use Rattle.ledger.specs.Gate.{pages, txAt, lowest, again, beyond, pagesFault, gate, gated};
+ghost use Rattle.ledger.specs.Gate.{pages, txAt, rowsAt, again, beyond, pagesRows, gate, gated};
 
 // The most pages, and the most bytes.
 pub const MOST_PAGES: usize = 64;
@@ -36,18 +36,18 @@ fn shut(number: u32, place: usize) -> Gate
 // 2 to 10: the lowest bad page, with its first number.
 fn bad_page(batch: &[u8], m: usize) -> Gate
     requires { ⌜ (m * 512 ≤ length (now batch)) × (m ≤ 64) ⌝ }
-    ensures { λ r. ⌜ gated r ≡ judged (lowest (λ i. pageFault (pageAt (now (batch .entry)) i)) m) m ⌝ }
+    ensures { λ r. ⌜ gated r ≡ judged (first (inTurn m (rowsAt (now (batch .entry))))) m ⌝ }
 {
     let mut i = 0;
     while i < m {
         let start = i * check::PAGE;
         let end = start + check::PAGE;
         let found = check::check_page(&batch[start..end]);
-        let PageCheck::Bad { number } = found else {
+        let PageCheck::Bad { refusal } = found else {
             i += 1;
             continue;
         };
-        return shut(number, i);
+        return shut(refusal.number, i);
     }
     Gate::Open { pages: m }
 }
@@ -70,7 +70,7 @@ fn find(tickets: &[u32; 64], n: usize, ticket: u32) -> usize
 // 15: the lowest page whose ticket stands on an earlier page; `m` where none does.
 fn first_again(batch: &[u8], m: usize) -> usize
     requires { ⌜ (m * 512 ≤ length (now batch)) × (m ≤ 64) ⌝ }
-    requires { ⌜ ((i : ℕ) → i < m → pageFault (pageAt (now batch) i) ≡ 0) ⌝ }
+    requires { ⌜ ((i : ℕ) → i < m → pageFault (pageAt (now batch) i) ≡ clear) ⌝ }
     ensures { λ r. ⌜ r ≡ firstIn (again (now (batch .entry))) 0 m ⌝ }
 {
     let mut tickets = [0u32; 64];
@@ -90,7 +90,7 @@ fn first_again(batch: &[u8], m: usize) -> usize
 
 // Whether a good page has a key that is not below `keys`: as its keys rise, the last ones tell.
 fn reaches_beyond(page: &[u8], keys: usize) -> bool
-    requires { ⌜ pageFault (now page) ≡ 0 ⌝ }
+    requires { ⌜ pageFault (now page) ≡ clear ⌝ }
     ensures { λ r. ⌜ r ≡ beyond keys (pageTx (now (page .entry))) ⌝ }
 {
     let r = held::reads(page);
@@ -113,7 +113,7 @@ fn reaches_beyond(page: &[u8], keys: usize) -> bool
 // 16: the lowest page with a key that is not below `keys`; `m` where none has.
 fn first_beyond(batch: &[u8], m: usize, keys: usize) -> usize
     requires { ⌜ (m * 512 ≤ length (now batch)) × (m ≤ 64) ⌝ }
-    requires { ⌜ ((i : ℕ) → i < m → pageFault (pageAt (now batch) i) ≡ 0) ⌝ }
+    requires { ⌜ ((i : ℕ) → i < m → pageFault (pageAt (now batch) i) ≡ clear) ⌝ }
     ensures { λ r. ⌜ r ≡ firstIn (λ i. beyond keys (txAt (now (batch .entry)) i)) 0 m ⌝ }
 {
     let mut i = 0;
@@ -131,7 +131,7 @@ fn first_beyond(batch: &[u8], m: usize, keys: usize) -> usize
 // 2 to 10, 15 and 16: the pages, of a batch of whole pages.
 fn pages_gate(batch: &[u8], keys: usize) -> Gate
     requires { ⌜ length (now batch) ≤ 32768 ⌝ }
-    ensures { λ r. ⌜ gated r ≡ judged (pagesFault (now (batch .entry)) keys) (pages (now (batch .entry))) ⌝ }
+    ensures { λ r. ⌜ gated r ≡ judged (first (pagesRows (now (batch .entry)) keys)) (pages (now (batch .entry))) ⌝ }
 {
     let m = batch.len() / check::PAGE;
     let found = bad_page(batch, m);

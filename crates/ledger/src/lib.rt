@@ -29,10 +29,10 @@ pub struct Transaction {
     pub writes: [Write; 32],
 }
 
-// What checking a page finds: its counts of reads and writes, or the number of its first fault.
+// What checking a page finds: its counts of reads and writes, or its first fault.
 pub enum PageCheck {
     Good { reads: usize, writes: usize },
-    Bad { number: u32 },
+    Bad { refusal: Refusal },
 }
 
 // What reading a page finds: the check, and the transaction where the page is good.

@@ -133,6 +133,26 @@ pub holds : (bad : ℕ → Bool) (n x : ℕ) → x ≡ firstIn bad 0 n → x < n
 unfolding firstIn
 holds bad n x e h = rw e (holds-seek bad 0 (n - 0) (omega arith))
 
+-- and before it the test fails
+before-seek : (bad : ℕ → Bool) (i k j : ℕ) → i + j < seek bad i k → bad (i + j) ≡ false
+unfolding seek
+before-seek bad i zero j h = absurd (omega arith)
+before-seek bad i (suc k) j h = go (bad i) refl j h (λ l o. before-seek bad (suc i) k l o)
+  where
+    go : (b : Bool)
+        → bad i ≡ b
+        → (l : ℕ)
+        → i + l < pick b i (seek bad (suc i) k)
+        → ((m : ℕ) → suc i + m < seek bad (suc i) k → bad (suc i + m) ≡ false)
+        → bad (i + l) ≡ false
+    go true e l o ih = absurd (omega arith)
+    go false e zero o ih = rw add-zero e
+    go false e (suc l) o ih = rw (add-suc, ← suc-add) (ih l (omega arith))
+
+pub before : (bad : ℕ → Bool) (n x : ℕ) → x ≡ firstIn bad 0 n → (j : ℕ) → j < x → bad j ≡ false
+unfolding firstIn
+before bad n x e j h = rw zero-add at (before-seek bad 0 (n - 0) j (omega arith))
+
 -- ---- tests over a list, as searches
 
 seek-next : (bad : ℕ → Bool) (i k : ℕ) → seek bad (suc i) k ≡ suc (seek (λ j. bad (suc j)) i k)

@@ -6,7 +6,9 @@ use native.Mathlib.Omega.{arith}
 use lib.ListN.{length, getD, replicate, length-append, length-replicate, length-map, List·getD-map}
 use lib.Seq.{ext-getD}
 use lib.IntN.{pos}
+use Rattle.refusals.specs.declared.Refusal.{Refusal}
 use Rattle.refusals.specs.Outcome.{gives, refuses}
+use Rattle.refusals.specs.Fault.{clear}
 use Rattle.ledger.specs.declared.PageCheck.{PageCheck}
 use Rattle.ledger.specs.declared.PageCheck.the-variants.{Good, Bad}
 use Rattle.ledger.specs.declared.PageRead.{PageRead}
@@ -85,7 +87,7 @@ module _ (x : PageRead) (p : List ℕ) (h : taken x ≡ readPage p) where
   pub page-room : (r w : ℕ) → x .check ≡ Good r w → Room (x .transaction)
   unfolding readPage
   page-room r w e =
-      let n : pageFault p ≡ 0 = taken-none p _ (ap checked (sym e) ∙ ap (λ (y : Taken). y .answer) h) in
+      let n : pageFault p ≡ clear = taken-none p _ (ap checked (sym e) ∙ ap (λ (y : Taken). y .answer) h) in
       let q : x .transaction ≡ padded (pageTx p) = ap (λ (y : Taken). y .transaction) h ∙ sym (ap (λ (y : Taken). y .transaction) (read-taken p n)) in
       let c = good-counted p n in
       rw q (padded-room (pageTx p) (omega (arith, count-reads p, c .few-reads)) (omega (arith, count-writes p, c .few-writes)))
@@ -96,9 +98,9 @@ module _ (x : PageRead) (p : List ℕ) (h : taken x ≡ readPage p) where
       ap (λ (b : Arrays). record { word = 0; arrays = b }) (laid (x .transaction) b (page-room r w e) l)
       ∙ ap (λ (y : PageCheck). left a (record { answer = checked y; transaction = x .transaction })) (sym e) ∙ ap (left a) h
 
-  pub page-bad : (a : Arrays) (n w : ℕ) → w ≡ upper n 0 → x .check ≡ Bad n → record { word = w; arrays = a } ≡ pageLeft p a
+  pub page-bad : (a : Arrays) (f : Refusal) (w : ℕ) → w ≡ upper (f .number) (f .place) → x .check ≡ Bad f → record { word = w; arrays = a } ≡ pageLeft p a
   unfolding pageLeft
-  page-bad a n w q e =
+  page-bad a f w q e =
       ap (λ (y : ℕ). record { word = y; arrays = a }) q
       ∙ ap (λ (y : PageCheck). left a (record { answer = checked y; transaction = x .transaction })) (sym e) ∙ ap (left a) h
 

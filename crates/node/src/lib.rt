@@ -120,7 +120,7 @@ pub extern "C" fn nevolisca_read_page(
             arrays::fill_writes(writes, write_keys, write_kinds, write_values);
             0
         }
-        PageCheck::Bad { number } => refused(Refusal { number, place: 0 }),
+        PageCheck::Bad { refusal } => refused(refusal),
     }
 }
 

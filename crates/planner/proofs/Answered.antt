@@ -14,6 +14,7 @@ use Rattle.lists.specs.Members.{any, those, upto, distinct}
 use Rattle.lists.proofs.Membership.{those-same, distinct-those, perm-distinct, upto-below, upto-distinct}
 use Rattle.refusals.specs.Outcome.{Outcome, gives, refuses}
 use Rattle.refusals.specs.Fault.{clear}
+use Rattle.refusals.proofs.Rows.{judged-gives, judged-refuses}
 use Rattle.orders.specs.Walk.{Holds}
 use Rattle.orders.specs.Admission.{admit}
 use Rattle.orders.specs.Arrange.{byTicket, schedule}
@@ -24,7 +25,7 @@ use Rattle.ledger.specs.State.{State, keys}
 use Rattle.ledger.specs.Gate.{pages, txAt, gateFault, gate, Batch}
 use Rattle.ledger.proofs.OnPage.{tab-same}
 use Rattle.ledger.proofs.Faults.{or-none}
-use Rattle.ledger.proofs.Gated.{judged-gives, judged-refuses, Through, gate-open}
+use Rattle.ledger.proofs.Gated.{Through, gate-open}
 use Rattle.planner.specs.declared.Planned.the-variants.{Kept}
 use Rattle.planner.specs.Ranks.{demands, nth, Sound, Differ, Ranked}
 use Rattle.planner.specs.Plan.{current, before, sequence, kept, verdict, order, gathered, Plans, plans, short, planBatch, planned}

@@ -17,6 +17,7 @@ use Rattle.sets.proofs.Laws.{none}
 use Rattle.ledger.specs.declared.Read.{Read}
 use Rattle.ledger.specs.declared.Write.{Write}
 use Rattle.ledger.specs.Tx.{Tx, noRead, noWrite, readOf, writeOf}
+use Rattle.refusals.specs.Fault.{clear}
 use Rattle.ledger.specs.Page.{pageAt, pageTx, pageFault}
 use Rattle.ledger.specs.Gate.{txAt}
 use Rattle.ledger.proofs.Gated.{lent}
@@ -62,7 +63,7 @@ in-at (y ∷ ys) d (List·Memᴰ·head e) = (0, omega arith, e)
 in-at (y ∷ ys) d (List·Memᴰ·tail m) = let w = in-at ys d m in (suc (w .0), omega (arith, w .1), w .2)
 
 -- the keys of a good page are below 1024
-module _ (p : List ℕ) (good : pageFault p ≡ 0) where
+module _ (p : List ℕ) (good : pageFault p ≡ clear) where
   pub read-small : (i : ℕ) (x : Read) → x ≡ readOf (pageTx p .reads) i → i < length (pageTx p .reads) → x .key < 1024
   read-small i x e h = let low = read-keys p good .small i h in rw e (omega arith)
 
@@ -125,7 +126,7 @@ marking-ends x rank old new i inv l k j h = inv .marks k j h ∙ ap (λ rs. memb
 
 -- ---- the ranks that read each key, page after page
 
-pub lent-good : (batch : List ℕ) (i : ℕ) → pageFault (pageAt batch i) ≡ 0 → pageFault (take (i * 512 + 512 - i * 512) (drop (i * 512) batch)) ≡ 0
+pub lent-good : (batch : List ℕ) (i : ℕ) → pageFault (pageAt batch i) ≡ clear → pageFault (take (i * 512 + 512 - i * 512) (drop (i * 512) batch)) ≡ clear
 lent-good batch i e = rw (lent batch i) e
 
 pub record Reading (batch pages readers : List ℕ) (r : ℕ) : Type 0 where

@@ -10,6 +10,7 @@ use lib.ListN.{length, take, drop, set, length-set}
 use lib.Seq.{getD-set-same, getD-set-other}
 use Rattle.sets.specs.Set.{member}
 use Rattle.sets.proofs.Laws.{none}
+use Rattle.refusals.specs.Fault.{clear}
 use Rattle.ledger.specs.Page.{pageAt, pageTx, pageFault, Counted}
 use Rattle.ledger.specs.Gate.{txAt}
 use Rattle.ledger.proofs.Pages.{good-counted}
@@ -66,5 +67,5 @@ module _ (batch : List ℕ) where
       go j l false q = let other = eqb-false j i q in getD-set-other all i j v 0 other ∙ inv .tickets j (omega arith)
 
   -- a good page that is lent has its counts
-  pub lent-counted : (i : ℕ) → pageFault (pageAt batch i) ≡ 0 → Counted (take (i * 512 + 512 - i * 512) (drop (i * 512) batch))
+  pub lent-counted : (i : ℕ) → pageFault (pageAt batch i) ≡ clear → Counted (take (i * 512 + 512 - i * 512) (drop (i * 512) batch))
   lent-counted i e = rw (lent batch i) (good-counted (pageAt batch i) e)

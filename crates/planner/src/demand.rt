@@ -8,6 +8,7 @@ ghost use lib.ListN.{length, getD};
 ghost use lib.Dec.{eqb, ltb};
 ghost use Rattle.lists.specs.Members.{any};
 ghost use Rattle.sets.specs.Set.{member};
+ghost use Rattle.refusals.specs.Fault.{clear};
 ghost use Rattle.ledger.specs.Page.{pageTx, pageFault};
 ghost use Rattle.ledger.specs.Gate.{txAt};
 ghost use Rattle.planner.specs.Ranks.{demands, nth, Ranked};
@@ -15,7 +16,7 @@ ghost use Rattle.planner.specs.Plan.{reader, before};
 
 // Puts a rank into the set of readers of each key that its page reads.
 fn add_reads(page: &[u8], rank: usize, readers: &mut [u64])
-    requires { ⌜ pageFault (now page) ≡ 0 ⌝ }
+    requires { ⌜ pageFault (now page) ≡ clear ⌝ }
     requires { ⌜ (rank < 64) × (length (now readers) ≡ 1024) ⌝ }
     ensures { λ _. ⌜ ((k j : ℕ) → k < 1024 → member (getD (now (readers .exit)) k 0) j ≡ (member (getD (now (readers .entry)) k 0) j || (eqb rank j && reader (pageTx (now (page .entry))) k))) ⌝ }
 {
@@ -47,7 +48,7 @@ fn all_readers(batch: &[u8], pages: &[u8; 64], count: usize) -> [u64; 1024]
 
 // The readers of the keys that a page writes, without its own rank.
 fn blockers_of(page: &[u8], rank: usize, readers: &[u64; 1024]) -> u64
-    requires { ⌜ pageFault (now page) ≡ 0 ⌝ }
+    requires { ⌜ pageFault (now page) ≡ clear ⌝ }
     requires { ⌜ rank < 64 ⌝ }
     ensures { λ r. ⌜ ((j : ℕ) → member r j ≡ (any (λ w. member (getD (now (readers .entry)) (w .key) 0) j) (pageTx (now (page .entry)) .writes) && not (eqb rank j))) ⌝ }
 {

@@ -1,6 +1,11 @@
--- Faults in turn: the first one found is the refusal. Assumes nothing.
-use Prim.Native.Nat.{ℕ}
+-- Tables of refusals: rows in turn, and the first whose case is there. Assumes nothing.
+use Prim.Native.Nat.{ℕ, zero, suc}
 use mathlib.Core.Bool.{Bool, true, false}
+use mathlib.Core.List.{List, [], _∷_, _++_}
+use mathlib.Core.Path.{_≡_}
+use Rattle.lists.specs.Choice.{pick}
+use Rattle.refusals.specs.declared.Finding.{Finding}
+use Rattle.refusals.specs.declared.Finding.the-variants.{Clear, Found}
 use Rattle.refusals.specs.Outcome.{Outcome, gives, refuses}
 
 -- no fault, or a refusal's number and place
@@ -8,18 +13,62 @@ pub data Fault : Type 0 where
   clear : Fault
   fault : (number place : ℕ) → Fault
 
--- the first fault, and only where there is none the second
-infixr 20 _orElse_
-abbrev pub _orElse_ : Fault → Fault → Fault
-clear orElse b = b
-fault n p orElse b = fault n p
+-- ---- tables
 
--- a fault at place 0 where the test holds
-abbrev pub at : ℕ → Bool → Fault
-at n true = fault n 0
-at n false = clear
+-- a row of a table: a number and a place, and whether the row's case is there
+pub record Row : Type 0 where
+  pub number : ℕ
+  pub place : ℕ
+  pub case : Bool
+
+abbrev pub row : ℕ → ℕ → Bool → Row
+row n p c = record { number = n; place = p; case = c }
+
+-- the first row whose case is there
+unfoldable pub first : List Row → Fault
+first [] = clear
+first (r ∷ rs) = pick (r .case) (fault (r .number) (r .place)) (first rs)
+
+-- number n at place p is given: its row's case is there, and no case before it is
+pub data Given (n p : ℕ) : List Row → Type 0 where
+  here : {r : Row} {rs : List Row} → r .number ≡ n → r .place ≡ p → r .case ≡ true → Given n p (r ∷ rs)
+  later : {r : Row} {rs : List Row} → r .case ≡ false → Given n p rs → Given n p (r ∷ rs)
+
+-- the rows of the k indexes from i on, one index after the other
+unfoldable pub rowsFrom : (ℕ → List Row) → ℕ → ℕ → List Row
+rowsFrom rows i zero = []
+rowsFrom rows i (suc k) = rows i ++ rowsFrom rows (suc i) k
+
+-- the rows of the indexes below m
+abbrev pub inTurn : ℕ → (ℕ → List Row) → List Row
+inTurn m rows = rowsFrom rows 0 m
+
+-- one row for each index below m, with the index as its place
+abbrev pub eachRow : ℕ → ℕ → (ℕ → Bool) → List Row
+eachRow n m test = inTurn m (λ i. row n i (test i) ∷ [])
+
+-- the rows with other places
+unfoldable pub moved : (ℕ → ℕ) → List Row → List Row
+moved f [] = []
+moved f (r ∷ rs) = row (r .number) (f (r .place)) (r .case) ∷ moved f rs
+
+abbrev pub movedFault : (ℕ → ℕ) → Fault → Fault
+movedFault f clear = clear
+movedFault f (fault n p) = fault n (f p)
+
+-- ---- answers
 
 -- what is given where there is no fault
 abbrev pub judged : {A : Type 0} → Fault → A → Outcome A
 judged clear a = gives a
 judged (fault n p) a = refuses n p
+
+-- what is lent, afterwards: the new where there is no fault, the old where there is one
+abbrev pub after : {A : Type 0} → Fault → A → A → A
+after clear new old = new
+after (fault n p) new old = old
+
+-- what tests in turn found, as a fault
+abbrev pub finding : Finding → Fault
+finding Clear = clear
+finding (Found r) = fault (r .number) (r .place)

@@ -6,6 +6,12 @@ pub struct Refusal {
     pub place: u32,
 }
 
+// What tests in turn find: nothing, or the first refusal.
+pub enum Finding {
+    Clear,
+    Found { refusal: Refusal },
+}
+
 pub const PAGE_LENGTH: u32 = 1;
 
 pub const CHECK: u32 = 2;

@@ -9,13 +9,14 @@ use native.Mathlib.Omega.{arith}
 use lib.ListN.{length, set, length-append}
 use lib.Seq.{sets, sets-eq}
 use lib.IntN.{ℤ, pos, negsuc, negℤ}
-use borrow.Author.Tests.{lt-ltb, le-ltb, le-leb, lt-leb, ne-eqb}
+use borrow.Author.Tests.{lt-ltb, le-ltb, ne-eqb}
 use Rattle.lists.specs.Choice.{pick}
 use Rattle.lists.proofs.Stores.{sets-append}
 use Rattle.refusals.specs.Outcome.{gives, refuses}
+use Rattle.refusals.specs.Fault.{first}
 use Rattle.tonnage.specs.declared.figure.Parts.{Parts}
 use Rattle.tonnage.specs.Text.{minus, laid, size, form, figure, signed, beyond, digits, width, below0, tonnes, rest, textOf}
-use Rattle.tonnage.specs.Services.{in64, readText, writeText}
+use Rattle.tonnage.specs.Services.{in64, readRows, readText, writeRows, writeText}
 use Rattle.tonnage.proofs.Laying.{and-false}
 use Rattle.tonnage.proofs.Runs.{length-digits}
 
@@ -32,33 +33,33 @@ out64-minus (suc n) h = le-ltb n (2 ^ 63) (omega arith)
 
 module _ (text : List ℕ) where
   pub unlaid : laid text ≡ false → readText text ≡ refuses 18 0
-  unfolding readText form
+  unfolding readText readRows first form
   unlaid l = rw l
 
   module _ (s : ℕ) (e : s ≡ min beyond (size text)) where
     pub minus-zero : minus text ≡ true → s ≡ 0 → readText text ≡ refuses 18 0
-    unfolding readText form
+    unfolding readText readRows first form
     minus-zero m h =
         let z : size text ≡ 0 = omega arith in
         simp (m, z, and-false)
 
     module _ (l : laid text ≡ true) where
       pub too-low : minus text ≡ true → 9223372036854775808 < s → readText text ≡ refuses 19 0
-      unfolding readText form figure
+      unfolding readText readRows first form figure
       too-low m h = simp (l, m, ne-eqb (size text) 0 (omega arith), out64-minus (size text) (omega arith))
 
       pub too-high : minus text ≡ false → 9223372036854775807 < s → readText text ≡ refuses 19 0
-      unfolding readText form figure
+      unfolding readText readRows first form figure
       too-high m h = simp (l, m, le-ltb (size text) (2 ^ 63) (omega arith))
 
       low : minus text ≡ true → 0 < s → s ≤ 9223372036854775808 → readText text ≡ gives (negℤ (pos s))
-      unfolding readText form figure
+      unfolding readText readRows first form figure
       low m h k =
           let z : size text ≡ s = omega arith in
           simp (l, m, z, ne-eqb s 0 (omega arith), in64-minus s h k)
 
       high : minus text ≡ false → s ≤ 9223372036854775807 → readText text ≡ gives (pos s)
-      unfolding readText form figure
+      unfolding readText readRows first form figure
       high m k =
           let z : size text ≡ s = omega arith in
           simp (l, m, z, lt-ltb s (2 ^ 63) (omega arith))
@@ -89,11 +90,11 @@ length-text z = simp (length-append, length-digits) (omega arith)
 
 module _ (z : ℤ) (buffer : List ℕ) where
   -- the sign, the tonnes, the comma and the rest, stored one after the other, are one run
-  pub stored : (p : Parts) (s w : ℕ) (first second last : List ℕ) → p ≡ partsOf z → s ≡ length (signOf z) → w ≡ width (tonnes z)
-      → first ≡ sets buffer 0 (signOf z) → second ≡ sets first s (digits w (p .tonnes))
-      → last ≡ sets (set second (s + w) 44) (s + w + 1) (digits 3 (p .rest)) → last ≡ sets buffer 0 (textOf z)
+  pub stored : (p : Parts) (s w : ℕ) (one two last : List ℕ) → p ≡ partsOf z → s ≡ length (signOf z) → w ≡ width (tonnes z)
+      → one ≡ sets buffer 0 (signOf z) → two ≡ sets one s (digits w (p .tonnes))
+      → last ≡ sets (set two (s + w) 44) (s + w + 1) (digits 3 (p .rest)) → last ≡ sets buffer 0 (textOf z)
   unfolding textOf
-  stored p s w first second last g e f i j k =
+  stored p s w one two last g e f i j k =
       let t : ℕ = tonnes z in
       let tail : List ℕ = 44 ∷ digits 3 (rest z) in
       rw (k, j, i, g)
@@ -102,12 +103,12 @@ module _ (z : ℤ) (buffer : List ℕ) where
       ∙ rw (zero-add, ← e) (sets-append (sets buffer 0 (signOf z)) s (digits w t) tail ∙ rw (length-digits w t, add-one)))))
 
   pub too-small : (n : ℕ) → n ≡ length (textOf z) → length buffer < n → record { answer = refuses 20 0; text = buffer } ≡ writeText buffer z
-  unfolding writeText
-  too-small n e h = rw (lt-leb (length (textOf z)) (length buffer) (rw e at h))
+  unfolding writeText writeRows first
+  too-small n e h = rw (lt-ltb (length buffer) (length (textOf z)) (rw e at h))
 
   pub fitting : (n : ℕ) (after : List ℕ) → n ≡ length (textOf z) → n ≤ length buffer → after ≡ sets buffer 0 (textOf z)
       → record { answer = gives n; text = after } ≡ writeText buffer z
-  unfolding writeText
+  unfolding writeText writeRows first
   fitting n after e h f =
       let l : length (textOf z) ≤ length buffer = omega arith in
-      rw (le-leb (length (textOf z)) (length buffer) l, f, e, sets-eq (textOf z) buffer 0 (rw zero-add l), zero-add)
+      rw (le-ltb (length buffer) (length (textOf z)) l, f, e, sets-eq (textOf z) buffer 0 (rw zero-add l), zero-add)

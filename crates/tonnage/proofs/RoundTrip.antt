@@ -9,11 +9,12 @@ use lib.ListN.{length, drop}
 use lib.IntN.{ℤ, pos, negsuc, natAbs}
 use mir.Syntax.{w64}
 use mir.Val.{SFits}
-use borrow.Author.Tests.{ltb-true, lt-ltb, le-leb}
-use Rattle.lists.specs.Choice.{pick}
-use Rattle.refusals.specs.Outcome.{gives, refuses}
+use borrow.Author.Tests.{ltb-true, lt-ltb, le-ltb, not-false}
+use Rattle.refusals.specs.Outcome.{gives}
 use Rattle.tonnage.specs.Text.{form, figure, signed, follow, digits, widthIn, width, below0, tonnes, rest, textOf}
-use Rattle.tonnage.specs.Services.{in64, readText, writeText}
+use Rattle.tonnage.specs.Services.{in64, readRows, readText, writeRows, writeText}
+use Rattle.refusals.specs.Fault.{first}
+use Rattle.refusals.proofs.Rows.{row-none, judged-gives}
 use Rattle.tonnage.proofs.Runs.{length-digits, width-some, narrow}
 use Rattle.tonnage.proofs.Answers.{length-text, sign-length}
 use Rattle.tonnage.proofs.Decimal.{run-digits, run-width, run-tonnes, digits-each, digits-three, digits-follow, rest-follow, first-lean}
@@ -87,17 +88,14 @@ one-only y z e = sym (text-figure y) ∙ ap figure e ∙ text-figure z
 
 -- what is accepted is exactly what the writer writes
 pub accepted-written : (text : List ℕ) (z : ℤ) → readText text ≡ gives z → textOf z ≡ text
-unfolding readText
-accepted-written text z e = go (form text) (in64 (figure text)) refl e
-  where
-    go : (a b : Bool) → form text ≡ a → pick a (pick b (gives (figure text)) (refuses 19 0)) (refuses 18 0) ≡ gives z → textOf z ≡ text
-    go true true f h = let same : z ≡ figure text = cc in rw same (form-text text f)
-    go true false f h = let clash : _≡_ {A = ℕ} 0 1 = cc in absurd (omega arith)
-    go false b f h = let clash : _≡_ {A = ℕ} 0 1 = cc in absurd (omega arith)
+unfolding readText readRows
+accepted-written text z e =
+    let g = judged-gives (first (readRows text)) z (figure text) (sym e) in
+    rw (g .1) (form-text text (not-false (form text) (row-none _ _ (g .0) .0)))
 
 -- what is written reads back
 pub written-accepted : (z : ℤ) → in64 z ≡ true → readText (textOf z) ≡ gives z
-unfolding readText
+unfolding readText readRows first
 written-accepted z h = rw (text-form z, text-figure z, h)
 
 -- "The longest text, for the lowest 64-bit number, has 21 bytes"
@@ -121,8 +119,8 @@ longest-fits z f = longest z (within-64 z f)
 -- where the text fits, it is written
 pub written : (z : ℤ) (buffer : List ℕ) → length (textOf z) ≤ length buffer
     → writeText buffer z ≡ record { answer = gives (length (textOf z)); text = textOf z ++ drop (length (textOf z)) buffer }
-unfolding writeText
-written z buffer h = rw (le-leb (length (textOf z)) (length buffer) h)
+unfolding writeText writeRows first
+written z buffer h = rw (le-ltb (length buffer) (length (textOf z)) h)
 
 pub lowest-has-21 : length (textOf (negsuc 9223372036854775807)) ≡ 21
 unfolding textOf digits width widthIn

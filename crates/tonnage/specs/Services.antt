@@ -1,12 +1,12 @@
 -- What the two services on tonnage texts answer, for every input. Assumes nothing.
-use mathlib.Core.Bool.{Bool}
-use mathlib.Core.List.{List, _++_}
+use mathlib.Core.Bool.{Bool, not}
+use mathlib.Core.List.{List, [], _∷_, _++_}
 use Prim.Native.Nat.{ℕ, _^_}
 use lib.ListN.{length, drop}
-use lib.Dec.{leb, ltb}
+use lib.Dec.{ltb}
 use lib.IntN.{ℤ, pos, negsuc}
-use Rattle.lists.specs.Choice.{pick}
 use Rattle.refusals.specs.Outcome.{Outcome, gives, refuses}
+use Rattle.refusals.specs.Fault.{Row, row, first, judged, after}
 use Rattle.tonnage.specs.declared.Reading.{Reading}
 use Rattle.tonnage.specs.declared.Reading.the-variants.{Kilograms, Unread}
 use Rattle.tonnage.specs.declared.Writing.{Writing}
@@ -18,9 +18,15 @@ abbrev pub in64 : ℤ → Bool
 in64 (pos n) = ltb n (2 ^ 63)
 in64 (negsuc n) = ltb n (2 ^ 63)
 
--- "Text reading: 18, 19"
+-- "Text reading: 18, 19": "18: text not of the form above"; "19: figure outside signed 64 bits"
+unfoldable pub readRows : List ℕ → List Row
+readRows text =
+    row 18 0 (not (form text)) ∷
+    row 19 0 (not (in64 (figure text))) ∷
+    []
+
 unfoldable pub readText : List ℕ → Outcome ℤ
-readText text = pick (form text) (pick (in64 (figure text)) (gives (figure text)) (refuses 19 0)) (refuses 18 0)
+readText text = judged (first (readRows text)) (figure text)
 
 -- the answer of the reader as an outcome
 abbrev pub read : Reading → Outcome ℤ
@@ -32,14 +38,20 @@ pub record Written : Type 0 where
   pub answer : Outcome ℕ
   pub text : List ℕ
 
--- "The writer fills the front of a lent text buffer, gives the length, and leaves the bytes after it." "Text writing: 20"
+-- "Text writing: 20": "20: text buffer shorter than the text"
+unfoldable pub writeRows : List ℕ → ℤ → List Row
+writeRows buffer z = row 20 0 (ltb (length buffer) (length (textOf z))) ∷ []
+
+-- "The writer fills the front of a lent text buffer, gives the length, and leaves the bytes after it."
 unfoldable pub writeText : List ℕ → ℤ → Written
 writeText buffer z =
-    pick (leb (length (textOf z)) (length buffer))
-    (record { answer = gives (length (textOf z)); text = textOf z ++ drop (length (textOf z)) buffer })
-    (record { answer = refuses 20 0; text = buffer })
+    let wrong = first (writeRows buffer z) in
+    record { answer = judged wrong (length (textOf z)); text = after wrong (textOf z ++ drop (length (textOf z)) buffer) buffer }
 
--- the answer of the writer, with the buffer as it is at the end
+-- the answer of the writer as an outcome, with the buffer as it is at the end
+abbrev pub writing : Writing → Outcome ℕ
+writing (Length n) = gives n
+writing (Unwritten r) = refuses (r .number) (r .place)
+
 abbrev pub wrote : Writing → List ℕ → Written
-wrote (Length n) buffer = record { answer = gives n; text = buffer }
-wrote (Unwritten r) buffer = record { answer = refuses (r .number) (r .place); text = buffer }
+wrote x buffer = record { answer = writing x; text = buffer }

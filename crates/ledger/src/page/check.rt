@@ -5,11 +5,15 @@ use crate::entry;
 use crate::page::counts;
 use crate::page::held;
 use crate::page::weight;
+use refusals::Finding;
+use refusals::Refusal;
 ghost use mathlib.Core.Path.{_≡_};
 ghost use lib.ListN.{length};
 ghost use Rattle.lists.specs.Search.{firstIn};
+ghost use mathlib.Core.List.{_∷_};
+ghost use Rattle.refusals.specs.Fault.{first, finding};
 ghost use Rattle.ledger.specs.Tx.{readOf, writeOf, readOutOfTurn, writeOutOfTurn, wrongVersion, wrongKind};
-ghost use Rattle.ledger.specs.Page.{pageTx, Counted, headFault, entryFault};
+ghost use Rattle.ledger.specs.Page.{pageTx, Counted, lengthRow, headRows, entryRows};
 ghost use Rattle.ledger.specs.Services.{checked, checkPage};
 
 // The length of a page, the mark at its start, and where its check stands.
@@ -93,65 +97,67 @@ fn first_kind(page: &[u8]) -> usize
 }
 
 // 1 to 5: the length, the check, the mark and the counts.
-fn head_fault(page: &[u8]) -> u32
-    ensures { λ n. ⌜ n ≡ headFault (now (page .entry)) ⌝ }
+fn head_fault(page: &[u8]) -> Finding
+    ensures { λ x. ⌜ finding x ≡ first (lengthRow (now (page .entry)) ∷ headRows (now (page .entry))) ⌝ }
 {
     if page.len() != PAGE {
-        return refusals::PAGE_LENGTH;
+        return counts::found(refusals::PAGE_LENGTH);
     }
     if weight::weigh(page) != bytes::le4(page, CHECK) {
-        return refusals::CHECK;
+        return counts::found(refusals::CHECK);
     }
     if page[0] != MARK {
-        return refusals::MARK;
+        return counts::found(refusals::MARK);
     }
     if page[3] != 0 {
-        return refusals::MARK;
+        return counts::found(refusals::MARK);
     }
     counts::count_fault(page[1] as usize, page[2] as usize)
 }
 
 // 6 to 9: the entries.
-fn entry_fault(page: &[u8]) -> u32
+fn entry_fault(page: &[u8]) -> Finding
     requires { ⌜ Counted (now page) ⌝ }
-    ensures { λ n. ⌜ n ≡ entryFault (pageTx (now (page .entry))) ⌝ }
+    ensures { λ x. ⌜ finding x ≡ first (entryRows (pageTx (now (page .entry)))) ⌝ }
 {
     let r = held::reads(page);
     let w = held::writes(page);
     if first_read_key(page) < r {
-        return refusals::READ_KEYS;
+        return counts::found(refusals::READ_KEYS);
     }
     if first_version(page) < r {
-        return refusals::READ_VERSION;
+        return counts::found(refusals::READ_VERSION);
     }
     if first_write_key(page) < w {
-        return refusals::WRITE_KEYS;
+        return counts::found(refusals::WRITE_KEYS);
     }
     if first_kind(page) < w {
-        return refusals::WRITE_KIND;
+        return counts::found(refusals::WRITE_KIND);
     }
-    0
+    Finding::Clear
 }
 
 // Checks a page of any length: refusals 1 to 10 in turn.
 pub fn check_page(page: &[u8]) -> PageCheck
     ensures { λ x. ⌜ checked x ≡ checkPage (now (page .entry)) ⌝ }
 {
-    let number = head_fault(page);
-    if number != 0 {
-        return PageCheck::Bad { number };
+    let found = head_fault(page);
+    if let Finding::Found { refusal } = found {
+        return PageCheck::Bad { refusal };
     }
-    let number = entry_fault(page);
-    if number != 0 {
-        return PageCheck::Bad { number };
+    let found = entry_fault(page);
+    if let Finding::Found { refusal } = found {
+        return PageCheck::Bad { refusal };
     }
     let reads = held::reads(page);
     let writes = held::writes(page);
     let spare = 8 + 8 * reads + 12 * writes;
     if bytes::any_set(page, spare, CHECK) {
-        return PageCheck::Bad {
+        let refusal = Refusal {
             number: refusals::SPARE_BYTE,
+            place: 0,
         };
+        return PageCheck::Bad { refusal };
     }
     PageCheck::Good { reads, writes }
 }

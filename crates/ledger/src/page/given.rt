@@ -3,12 +3,15 @@ use crate::Read;
 use crate::Transaction;
 use crate::Write;
 use crate::entry;
+use crate::page::counts;
+use refusals::Finding;
 ghost use mathlib.Core.Path.{_≡_};
 ghost use Prim.Native.Nat.{_≤_};
 ghost use lib.ListN.{take};
 ghost use Rattle.lists.specs.Search.{firstIn};
+ghost use Rattle.refusals.specs.Fault.{first, finding};
 ghost use Rattle.ledger.specs.Tx.{valueTx, readOf, writeOf, readOutOfTurn, writeOutOfTurn, wrongVersion, wrongKind};
-ghost use Rattle.ledger.specs.Page.{entryFault};
+ghost use Rattle.ledger.specs.Page.{entryRows};
 
 // The first of `n` reads whose key is out of turn; `n` where none is.
 fn first_read_key(xs: [Read; 32], n: usize) -> usize
@@ -79,25 +82,25 @@ fn first_kind(xs: [Write; 32], n: usize) -> usize
 }
 
 // 6 to 9: the entries within the counts.
-pub fn entry_fault(t: Transaction) -> u32
+pub fn entry_fault(t: Transaction) -> Finding
     requires { ⌜ (t .r ≤ 32) × (t .w ≤ 32) ⌝ }
-    ensures { λ n. ⌜ n ≡ entryFault (valueTx t) ⌝ }
+    ensures { λ x. ⌜ finding x ≡ first (entryRows (valueTx t)) ⌝ }
 {
     let reads = t.reads;
     let writes = t.writes;
     let r = t.r;
     let w = t.w;
     if first_read_key(reads, r) < r {
-        return refusals::READ_KEYS;
+        return counts::found(refusals::READ_KEYS);
     }
     if first_version(reads, r) < r {
-        return refusals::READ_VERSION;
+        return counts::found(refusals::READ_VERSION);
     }
     if first_write_key(writes, w) < w {
-        return refusals::WRITE_KEYS;
+        return counts::found(refusals::WRITE_KEYS);
     }
     if first_kind(writes, w) < w {
-        return refusals::WRITE_KIND;
+        return counts::found(refusals::WRITE_KIND);
     }
-    0
+    Finding::Clear
 }

@@ -5,32 +5,29 @@ use crate::page::check;
 use crate::page::counts;
 use crate::page::fill;
 use crate::page::given;
+use refusals::Finding;
 use refusals::Refusal;
 ghost use mathlib.Core.Path.{_≡_};
 ghost use Rattle.ledger.specs.Services.{put, writePage};
-
-// A page that is not written.
-fn unwritten(number: u32) -> PageWrite
-    ensures { λ x. ⌜ x ≡ PageWrite.Unwritten (record { number = number; place = 0 }) ⌝ }
-{
-    let refusal = Refusal { number, place: 0 };
-    PageWrite::Unwritten { refusal }
-}
 
 // Writes a page at a page index of a batch of any length: refusals 4 to 9, then 17.
 pub fn write_page(batch: &mut [u8], index: usize, t: Transaction) -> PageWrite
     ensures { λ x. ⌜ put x (now (batch .exit)) ≡ writePage (now (batch .entry)) index t ⌝ }
 {
-    let number = counts::count_fault(t.r, t.w);
-    if number != 0 {
-        return unwritten(number);
+    let found = counts::count_fault(t.r, t.w);
+    if let Finding::Found { refusal } = found {
+        return PageWrite::Unwritten { refusal };
     }
-    let number = given::entry_fault(t);
-    if number != 0 {
-        return unwritten(number);
+    let found = given::entry_fault(t);
+    if let Finding::Found { refusal } = found {
+        return PageWrite::Unwritten { refusal };
     }
     if index >= batch.len() / check::PAGE {
-        return unwritten(refusals::PAGE_INDEX);
+        let refusal = Refusal {
+            number: refusals::PAGE_INDEX,
+            place: 0,
+        };
+        return PageWrite::Unwritten { refusal };
     }
     let start = index * check::PAGE;
     let end = start + check::PAGE;

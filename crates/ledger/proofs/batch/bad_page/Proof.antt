@@ -1,28 +1,21 @@
 -- `bad_page`: a search by page.
 use mathlib.Core.Path.{_≡_, sym, ap, _∙_}
-use mathlib.Core.Bool.{Bool, not}
-use mathlib.Core.List.{List}
-use Prim.Native.Nat.{ℕ, _-_}
+use Prim.Native.Nat.{_-_}
 use denote.Ref.{now}
-use lib.Dec.{eqb}
-use borrow.Author.Tests.{eq-eqb, ne-eqb}
-use Rattle.lists.proofs.Loops.{Unfound, begins, found, passes, ends}
-use Rattle.refusals.specs.Outcome.{refuses}
 use Rattle.refusals.specs.Fault.{judged}
-use Rattle.ledger.specs.Page.{pageFault, pageAt}
+use Rattle.refusals.proofs.Rows.{Passed, passed-begins, passed-on, each-at, each-clear}
+use Rattle.ledger.specs.Page.{pageAt}
+use Rattle.ledger.specs.Gate.{rowsAt}
 use Rattle.ledger.specs.Services.{checked, checkPage}
-use Rattle.ledger.proofs.Gated.{lent, lowest-found, lowest-none, check-good, check-bad}
+use Rattle.ledger.proofs.Faults.{taken-none, refused-some}
+use Rattle.ledger.proofs.Gated.{lent, good-at, bad-at}
 use borrow.Author.Needs.{needs}
 use native.Mathlib.Omega.{arith}
 use Rattle.ledger.proofs.batch.bad_page.Statement.{statement}
 use Rattle.ledger.proofs.batch.bad_page.Tie as tie
 
--- page j is bad
-abbrev bad : List ℕ → ℕ → Bool
-bad batch j = not (eqb (pageFault (pageAt batch j)) 0)
-
 abbrev Inv-loop : tie.InvT-loop
-Inv-loop batch m i₀ i = Unfound (bad batch) 0 m i
+Inv-loop batch m i₀ i = Passed (rowsAt batch) i
 
 abbrev μ-loop : tie.MeasureT-loop
 μ-loop batch m i₀ i = m - i
@@ -33,7 +26,7 @@ page : (c : tie.After-check-page Inv-loop μ-loop)
 page c = c .check-page .ensures ∙ ap checkPage (lent (now (c .before .before .before .before .before .args .batch)) (c .before .before .before .loop .i))
 
 loop-holds : tie.Need-loop-holds Inv-loop μ-loop
-loop-holds c = begins _ _ _ (omega arith)
+loop-holds c = passed-begins _
 
 mul-start : tie.Need-mul-start Inv-loop μ-loop
 mul-start c = search needs
@@ -69,8 +62,7 @@ loop-again : tie.Need-loop-again Inv-loop μ-loop
 loop-again c =
     let f = c .before .before in
     let h = f .before .before .before in
-    passes (h .loop .inv) (f .before .before .loop-test .taken)
-    (ap not (eq-eqb _ _ (check-good _ _ _ (ap checked (sym (c .enum-told .given .1)) ∙ page f))))
+    passed-on (h .loop .inv) (good-at _ _ (taken-none _ _ (ap checked (sym (c .enum-told .given .1)) ∙ page f)))
 
 shut-requires : tie.Need-shut-requires Inv-loop μ-loop
 shut-requires c κs = search needs
@@ -80,17 +72,17 @@ returns c =
     let k = c .before .before in
     let f = k .before .before in
     let h = f .before .before .before in
-    let e = check-bad _ _ (ap checked (sym (k .found .given .1)) ∙ page f) in
+    let e = refused-some _ _ _ (ap checked (sym (k .found .given .1)) ∙ page f) in
     let u = f .before .before .loop-test .taken in
-    let m = h .before .before .args .m in
+    let a = h .before .before .args in
+    let i = h .loop .i in
     c .shut .ensures
-    ∙ ap (λ x. refuses x (h .loop .i)) (e .0)
-    ∙ ap (λ x. judged x m) (sym (lowest-found _ m (h .loop .i) (found (h .loop .inv) u (ap not (ne-eqb _ _ (e .1)))) u))
+    ∙ ap (λ x. judged x (a .m)) (sym (each-at (rowsAt (now (a .batch))) (a .m) i u (h .loop .inv .none) (bad-at (now (a .batch)) i (omega (arith, h .before .before .pre)) e)))
 
 returns-2 : tie.Need-returns-2 Inv-loop μ-loop
 returns-2 c =
     let s = c .before .before .before in
-    ap (λ x. judged x (s .args .m)) (sym (lowest-none _ _ _ (ends (c .before .loop .inv) (c .loop-test .left)) (omega arith)))
+    ap (λ x. judged x (s .args .m)) (sym (each-clear (rowsAt (now (s .args .batch))) (s .args .m) (λ j l. c .before .loop .inv .none j (omega (arith, c .loop-test .left)))))
 
 pub bad-page-spec : {M : Type 1} → statement M
 bad-page-spec =

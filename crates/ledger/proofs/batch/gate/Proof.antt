@@ -4,9 +4,10 @@ use mathlib.Core.Bool.{false}
 use native.Mathlib.Omega.{arith}
 use borrow.Author.Needs.{needs}
 use denote.Ref.{now}
-use Rattle.refusals.specs.Fault.{clear}
-use Rattle.ledger.specs.State.{State, stateOf, entry, wrongEntry, wrongLengths}
-use Rattle.ledger.proofs.Gated.{test-found, test-none, wrongBytes, too-long, too-odd, not-wrong, wrongEntries, gate-eleven, gate-twelve, gate-thirteen, gate-fourteen, gate-pages, Sized, sized}
+use Rattle.refusals.specs.Fault.{clear, first}
+use Rattle.refusals.proofs.Rows.{test-found, test-missed}
+use Rattle.ledger.specs.State.{State, stateOf, entry, wrongEntry, wrongLengths, stateRows}
+use Rattle.ledger.proofs.Gated.{wrongBytes, too-long, too-odd, not-wrong, state-twelve, state-rest, gate-eleven, gate-state, gate-fourteen, gate-pages, gate-is, Sized, sized}
 use Rattle.ledger.proofs.batch.gate.Statement.{statement}
 use Rattle.ledger.proofs.batch.gate.Tie as tie
 
@@ -24,9 +25,9 @@ no-twelve c = sym (c .before .lengths-wrong .ensures) ∙ c .if3 .left
 fits : (c : tie.Else3) → Sized (lent (c .before .before .before .before .before .before .before))
 fits c = sized _ (no-twelve c)
 
-no-thirteen : (c : tie.Else4) → let s = c .before .before .before .before .before .before .before .before .before in wrongEntries (lent s) (s .args .n) ≡ clear
+no-state : (c : tie.Else4) → let s = c .before .before .before .before .before .before .before .before .before in first (stateRows (lent s) (s .args .n)) ≡ clear
 unfolding lent
-no-thirteen c = test-none _ 12 _ _ (c .before .first-wrong .ensures) (c .if4 .left)
+no-state c = state-rest _ _ (no-twelve (c .before .before)) ∙ test-missed 13 _ _ _ (c .before .first-wrong .ensures) (c .if4 .left)
 
 shut-requires : tie.Need-shut-requires
 shut-requires c κs = search needs
@@ -34,7 +35,7 @@ shut-requires c κs = search needs
 returns : tie.Need-returns
 returns c =
     let s = c .before .before .before .before .before in
-    c .shut .ensures ∙ gate-eleven (s .args .short) (now (s .args .batch)) _ _ (too-long (now (s .args .batch)) (c .before .if1 .taken))
+    c .shut .ensures ∙ gate-is (s .args .short) (now (s .args .batch)) _ _ (gate-eleven (s .args .short) (now (s .args .batch)) _ _ (too-long (now (s .args .batch)) (c .before .if1 .taken)))
 
 shut-requires-2 : tie.Need-shut-requires-2
 shut-requires-2 c κs = search needs
@@ -42,7 +43,7 @@ shut-requires-2 c κs = search needs
 returns-2 : tie.Need-returns-2
 returns-2 c =
     let s = c .before .before .before .before .before .before in
-    c .shut2 .ensures ∙ gate-eleven (s .args .short) (now (s .args .batch)) _ _ (too-odd (now (s .args .batch)) (c .before .before .if1 .left) (c .before .if2 .taken))
+    c .shut2 .ensures ∙ gate-is (s .args .short) (now (s .args .batch)) _ _ (gate-eleven (s .args .short) (now (s .args .batch)) _ _ (too-odd (now (s .args .batch)) (c .before .before .if1 .left) (c .before .if2 .taken)))
 
 lengths-wrong-requires : tie.Need-lengths-wrong-requires
 lengths-wrong-requires c κs = search needs
@@ -56,7 +57,7 @@ returns-3 c =
     let e = c .before .before .before in
     let s = e .before .before .before .before .before in
     c .shut3 .ensures
-    ∙ gate-twelve (s .args .short) (now (s .args .batch)) (lent s) (s .args .n) (no-eleven e) (sym (c .before .before .lengths-wrong .ensures) ∙ c .before .if3 .taken)
+    ∙ gate-is (s .args .short) (now (s .args .batch)) (lent s) (s .args .n) (gate-state (s .args .short) (now (s .args .batch)) (lent s) (s .args .n) (no-eleven e) (state-twelve (lent s) (s .args .n) (sym (c .before .before .lengths-wrong .ensures) ∙ c .before .if3 .taken)))
 
 first-wrong-requires : tie.Need-first-wrong-requires
 unfolding lent
@@ -73,7 +74,7 @@ returns-4 c =
     let e = f .before .before .before in
     let s = e .before .before .before .before .before in
     c .shut4 .ensures
-    ∙ gate-thirteen (s .args .short) (now (s .args .batch)) (lent s) (s .args .n) (f .first-wrong .result) (no-eleven e) (no-twelve (f .before)) (test-found (λ k. wrongEntry (s .args .n) (entry (lent s) k)) 12 _ _ (f .first-wrong .ensures) (c .before .if4 .taken))
+    ∙ gate-is (s .args .short) (now (s .args .batch)) (lent s) (s .args .n) (gate-state (s .args .short) (now (s .args .batch)) (lent s) (s .args .n) (no-eleven e) (state-rest (lent s) (s .args .n) (no-twelve (f .before)) ∙ test-found 13 _ (λ k. wrongEntry (s .args .n) (entry (lent s) k)) _ (f .first-wrong .ensures) (c .before .if4 .taken)))
 
 shut-requires-5 : tie.Need-shut-requires-5
 shut-requires-5 c κs = search needs
@@ -86,7 +87,7 @@ returns-5 c =
     let e = f .before .before in
     let s = e .before .before .before .before .before in
     c .shut5 .ensures
-    ∙ gate-fourteen (s .args .short) (now (s .args .batch)) (lent s) (s .args .n) (no-eleven e) (no-twelve f) (no-thirteen g) (c .before .if5 .taken)
+    ∙ gate-is (s .args .short) (now (s .args .batch)) (lent s) (s .args .n) (gate-fourteen (s .args .short) (now (s .args .batch)) (lent s) (s .args .n) (no-eleven e) (no-state g) (c .before .if5 .taken))
 
 pages-gate-requires : tie.Need-pages-gate-requires
 pages-gate-requires c κs = search needs
@@ -99,7 +100,7 @@ returns-6 c =
     let e = f .before .before in
     let s = e .before .before .before .before .before in
     c .pages-gate .ensures
-    ∙ gate-pages (s .args .short) (now (s .args .batch)) (lent s) (s .args .n) (no-eleven e) (no-twelve f) (no-thirteen g) (c .before .if5 .left)
+    ∙ gate-is (s .args .short) (now (s .args .batch)) (lent s) (s .args .n) (gate-pages (s .args .short) (now (s .args .batch)) (lent s) (s .args .n) (no-eleven e) (no-state g) (c .before .if5 .left))
 
 pub gate-spec : {M : Type 1} → statement M
 gate-spec =

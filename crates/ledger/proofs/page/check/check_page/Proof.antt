@@ -1,101 +1,120 @@
 -- `check_page`: the head, the entries and the spare bytes in turn.
 use mathlib.Core.Path.{_≡_, sym, ap, _∙_}
+use mathlib.Core.List.{[], _∷_}
 use Prim.Native.Nat.{_+_, _*_}
 use native.Mathlib.Omega.{arith}
 use borrow.Author.Needs.{needs}
 use denote.Ref.{now}
 use Rattle.lists.specs.Search.{someIn}
+use Rattle.refusals.specs.Fault.{clear, first, finding}
+use Rattle.refusals.proofs.Rows.{row-there, row-passed}
 use Rattle.ledger.specs.Bytes.{set?}
-use Rattle.ledger.specs.Page.{fault, headFault, entryFault, pageFault, pageTx, Counted}
+use Rattle.ledger.specs.Page.{entryRows, spareRow, pageFault, pageTx, Counted}
 use Rattle.ledger.proofs.OnPage.{count-reads, count-writes}
-use Rattle.ledger.proofs.Faults.{spareFrom, head-counted, by-head, by-entries, by-spare, check-refused, check-taken}
+use Rattle.ledger.proofs.Faults.{headFault, spareFrom, head-counted, by-head, by-entries, by-spare, check-refused, check-taken}
 use Rattle.ledger.proofs.page.check.check_page.Statement.{statement}
 use Rattle.ledger.proofs.page.check.check_page.Tie as tie
 
-no-head : (c : tie.Else1) → headFault (now (c .before .before .before .args .page)) ≡ 0
-no-head c = sym (c .before .head-fault .ensures) ∙ c .if1 .left
+no-head : (c : tie.After-enum-told) → headFault (now (c .before .before .before .before .args .page)) ≡ clear
+no-head c = sym (c .before .before .head-fault .ensures) ∙ ap finding (c .enum-told .given .1)
 
-counted : (c : tie.Else1) → Counted (now (c .before .before .before .args .page))
+counted : (c : tie.After-enum-told) → Counted (now (c .before .before .before .before .args .page))
 counted c = head-counted _ (no-head c)
 
-no-entry : (c : tie.Else2) → entryFault (pageTx (now (c .before .before .before .before .before .args .page))) ≡ 0
-no-entry c = sym (c .before .entry-fault .ensures) ∙ c .if2 .left
+no-entry : (c : tie.After-enum-told2) → first (entryRows (pageTx (now (c .before .before .before .before .before .before .before .args .page)))) ≡ clear
+no-entry c = sym (c .before .before .entry-fault .ensures) ∙ ap finding (c .enum-told2 .given .1)
 
 -- where the spare bytes begin, and what stands there
 spare : (c : tie.After-writes)
-    → 8 + 8 * (c .before .reads .result) + 12 * (c .writes .result) ≡ spareFrom (now (c .before .before .before .before .before .before .before .args .page))
+    → 8 + 8 * (c .before .reads .result) + 12 * (c .writes .result) ≡ spareFrom (now (c .before .before .before .before .before .before .before .before .before .args .page))
 spare c =
-    let p = now (c .before .before .before .before .before .before .before .args .page) in
+    let p = now (c .before .before .before .before .before .before .before .before .before .args .page) in
     omega (arith, c .before .reads .ensures, c .writes .ensures, count-reads p, count-writes p)
 
 searched : (c : tie.After-any-set)
-    → let p = now (c .before .before .before .before .before .before .before .before .args .page) in
-    c .any-set .result ≡ someIn (set? p) (spareFrom p) 508
+    → let p = now (c .before .before .before .before .before .before .before .before .before .before .args .page) in
+    c .any-set .result ≡ spareRow p .case
 searched c =
-    let p = now (c .before .before .before .before .before .before .before .before .args .page) in
+    let p = now (c .before .before .before .before .before .before .before .before .before .before .args .page) in
     c .any-set .ensures ∙ ap (λ n. someIn (set? p) n 508) (spare (c .before))
 
 last : (c : tie.After-any-set)
-    → let p = now (c .before .before .before .before .before .before .before .before .args .page) in
-    pageFault p ≡ fault 10 (someIn (set? p) (spareFrom p) 508)
-last c = let e = c .before .before .before in by-spare _ (no-head (e .before .before)) (no-entry e)
+    → let p = now (c .before .before .before .before .before .before .before .before .before .before .args .page) in
+    pageFault p ≡ first (spareRow p ∷ [])
+last c = let e = c .before .before .before in by-spare _ (no-head (e .before .before .before)) (no-entry e)
 
 head-fault-requires : tie.Need-head-fault-requires
 head-fault-requires c κs = search needs
 
+enum-known-found : tie.Need-enum-known-found
+enum-known-found c = search needs
+
 returns : tie.Need-returns
 returns c =
-    let h = c .before .head-fault .ensures in
-    check-refused _ _ (c .if1 .taken) (h ∙ sym (by-head _ (λ e. c .if1 .taken (h ∙ e))))
+    let f = c .before in
+    check-refused _ _ _ (by-head _ (sym (f .before .before .head-fault .ensures) ∙ ap finding (f .found .given .1)))
+
+enum-told : tie.Need-enum-told
+enum-told c = search needs
 
 entry-fault-requires : tie.Need-entry-fault-requires
 entry-fault-requires c κs = counted c
 
+enum-known-found-2 : tie.Need-enum-known-found-2
+enum-known-found-2 c = search needs
+
 returns-2 : tie.Need-returns-2
 returns-2 c =
-    let h = c .before .entry-fault .ensures in
-    check-refused _ _ (c .if2 .taken) (h ∙ sym (by-entries _ (no-head (c .before .before)) (λ e. c .if2 .taken (h ∙ e))))
+    let f = c .before in
+    let e = f .before .before in
+    check-refused _ _ _ (by-entries _ (no-head (e .before)) (sym (e .entry-fault .ensures) ∙ ap finding (f .found2 .given .1)))
+
+enum-told-2 : tie.Need-enum-told-2
+enum-told-2 c = search needs
 
 reads-requires : tie.Need-reads-requires
-reads-requires c κs = counted (c .before .before)
+reads-requires c κs = counted (c .before .before .before)
 
 writes-requires : tie.Need-writes-requires
-writes-requires c κs = counted (c .before .before .before)
+writes-requires c κs = counted (c .before .before .before .before)
 
 mul-spare : tie.Need-mul-spare
-mul-spare c = omega (arith, spare c, counted (c .before .before .before .before))
+mul-spare c = omega (arith, spare c, counted (c .before .before .before .before .before))
 
 add-spare : tie.Need-add-spare
-add-spare c = omega (arith, spare c, counted (c .before .before .before .before))
+add-spare c = omega (arith, spare c, counted (c .before .before .before .before .before))
 
 mul-spare-2 : tie.Need-mul-spare-2
-mul-spare-2 c = omega (arith, spare c, counted (c .before .before .before .before))
+mul-spare-2 c = omega (arith, spare c, counted (c .before .before .before .before .before))
 
 add-spare-2 : tie.Need-add-spare-2
-add-spare-2 c = omega (arith, spare c, counted (c .before .before .before .before))
+add-spare-2 c = omega (arith, spare c, counted (c .before .before .before .before .before))
 
 any-set-requires : tie.Need-any-set-requires
-any-set-requires c κs = omega (arith, spare c, counted (c .before .before .before .before))
+any-set-requires c κs = omega (arith, spare c, counted (c .before .before .before .before .before))
 
 returns-3 : tie.Need-returns-3
-returns-3 c =
-    check-refused _ 10 (λ e. omega arith)
-    (sym (last (c .before) ∙ ap (fault 10) (sym (searched (c .before)) ∙ c .if3 .taken)))
+returns-3 c = let f = c .before in check-refused _ 10 0 (last f ∙ row-there _ [] (sym (searched f) ∙ c .if1 .taken))
 
 returns-4 : tie.Need-returns-4
+unfolding first
 returns-4 c =
     let f = c .before in
     check-taken _ _ _ (f .before .before .reads .ensures) (f .before .writes .ensures)
-    (last f ∙ ap (fault 10) (sym (searched f) ∙ c .if3 .left))
+    (last f ∙ row-passed _ [] (sym (searched f) ∙ c .if1 .left))
 
 pub check-page-spec : {M : Type 1} → statement M
 check-page-spec =
     tie.close
     (tie.spec
     head-fault-requires
+    enum-known-found
     returns
+    enum-told
     entry-fault-requires
+    enum-known-found-2
     returns-2
+    enum-told-2
     reads-requires
     writes-requires
     mul-spare

@@ -22,8 +22,11 @@ sum c = sym (weight (c .before .before)) ∙ c .if2 .left ∙ c .before .le4 .en
 mark : (c : tie.Else3) → getD (now (c .before .before .before .before .before .before .before .args .page)) 0 0 ≡ 0x54
 mark c = c .if3 .left
 
+found-requires : tie.Need-found-requires
+found-requires c κs = search needs
+
 returns : tie.Need-returns
-returns c = is-one _ (c .if1 .taken)
+returns c = c .found .ensures ∙ is-one (now (c .before .before .before .args .page)) (c .before .if1 .taken)
 
 weigh-requires : tie.Need-weigh-requires
 weigh-requires c κs = search needs
@@ -31,27 +34,36 @@ weigh-requires c κs = search needs
 le4-requires : tie.Need-le4-requires
 le4-requires c κs = search needs
 
+found-requires-2 : tie.Need-found-requires-2
+found-requires-2 c κs = search needs
+
 returns-2 : tie.Need-returns-2
 returns-2 c =
-    let l = c .before in
-    is-two _ (long (l .before .before)) (λ e. c .if2 .taken (weight (l .before) ∙ e ∙ sym (l .le4 .ensures)))
+    let l = c .before .before in
+    c .found2 .ensures ∙ is-two _ (long (l .before .before)) (λ e. c .before .if2 .taken (weight (l .before) ∙ e ∙ sym (l .le4 .ensures)))
 
 shared-slice-read-if3 : tie.Need-shared-slice-read-if3
 shared-slice-read-if3 c = search needs
 
+found-requires-3 : tie.Need-found-requires-3
+found-requires-3 c κs = search needs
+
 returns-3 : tie.Need-returns-3
 returns-3 c =
-    let e = c .before .before in
-    is-mark _ (long (e .before .before .before)) (sum e) (c .if3 .taken)
+    let e = c .before .before .before in
+    c .found3 .ensures ∙ is-mark _ (long (e .before .before .before)) (sum e) (c .before .if3 .taken)
 
 shared-slice-read-if4 : tie.Need-shared-slice-read-if4
 shared-slice-read-if4 c = search needs
 
+found-requires-4 : tie.Need-found-requires-4
+found-requires-4 c κs = search needs
+
 returns-4 : tie.Need-returns-4
 returns-4 c =
-    let m = c .before .before in
+    let m = c .before .before .before in
     let e = m .before .before in
-    is-three _ (long (e .before .before .before)) (sum e) (mark m) (c .if4 .taken)
+    c .found4 .ensures ∙ is-three _ (long (e .before .before .before)) (sum e) (mark m) (c .before .if4 .taken)
 
 shared-slice-read-count-fault : tie.Need-shared-slice-read-count-fault
 shared-slice-read-count-fault c = search needs
@@ -79,13 +91,17 @@ pub head-fault-spec : {M : Type 1} → statement M
 head-fault-spec =
     tie.close
     (tie.spec
+    found-requires
     returns
     weigh-requires
     le4-requires
+    found-requires-2
     returns-2
     shared-slice-read-if3
+    found-requires-3
     returns-3
     shared-slice-read-if4
+    found-requires-4
     returns-4
     shared-slice-read-count-fault
     cast-count-fault

@@ -1,5 +1,5 @@
 -- `entry_fault`: the searches in turn.
-use mathlib.Core.Path.{_≡_, sym}
+use mathlib.Core.Path.{_≡_, sym, _∙_}
 use mathlib.Core.Bool.{false}
 use native.Mathlib.Omega.{arith}
 use borrow.Author.Needs.{needs}
@@ -39,39 +39,59 @@ no-eight c = none-in _ _ _ _ (writes (c .before .before .before .before .before 
 first-read-key-requires : tie.Need-first-read-key-requires
 first-read-key-requires c κs = search needs
 
+found-requires : tie.Need-found-requires
+found-requires c κs = search needs
+
 returns : tie.Need-returns
 unfolding valueTx
-returns c = is-six _ (some-in _ _ _ _ (reads (c .before .before .before .before)) (c .before .first-read-key .ensures) (c .if1 .taken))
+returns c =
+    let b = c .before in
+    c .found .ensures ∙ is-six _ (some-in _ _ _ _ (reads (b .before .before .before .before)) (b .before .first-read-key .ensures) (b .if1 .taken))
 
 first-version-requires : tie.Need-first-version-requires
 first-version-requires c κs = search needs
 
+found-requires-2 : tie.Need-found-requires-2
+found-requires-2 c κs = search needs
+
 returns-2 : tie.Need-returns-2
 unfolding valueTx
 returns-2 c =
-    let e = c .before .before in
-    is-seven _ (no-six e)
-    (some-in _ _ _ _ (reads (e .before .before .before .before)) (c .before .first-version .ensures) (c .if2 .taken))
+    let b = c .before in
+    let e = b .before .before in
+    c .found2 .ensures
+    ∙ is-seven _ (no-six e)
+    (some-in _ _ _ _ (reads (e .before .before .before .before)) (b .before .first-version .ensures) (b .if2 .taken))
 
 first-write-key-requires : tie.Need-first-write-key-requires
 first-write-key-requires c κs = search needs
 
+found-requires-3 : tie.Need-found-requires-3
+found-requires-3 c κs = search needs
+
 returns-3 : tie.Need-returns-3
 unfolding valueTx
 returns-3 c =
-    let e = c .before .before in
-    is-eight _ (no-six (e .before .before)) (no-seven e)
-    (some-in _ _ _ _ (writes (e .before .before .before .before .before .before)) (c .before .first-write-key .ensures) (c .if3 .taken))
+    let b = c .before in
+    let e = b .before .before in
+    c .found3 .ensures
+    ∙ is-eight _ (no-six (e .before .before)) (no-seven e)
+    (some-in _ _ _ _ (writes (e .before .before .before .before .before .before)) (b .before .first-write-key .ensures) (b .if3 .taken))
 
 first-kind-requires : tie.Need-first-kind-requires
 first-kind-requires c κs = search needs
 
+found-requires-4 : tie.Need-found-requires-4
+found-requires-4 c κs = search needs
+
 returns-4 : tie.Need-returns-4
 unfolding valueTx
 returns-4 c =
-    let e = c .before .before in
-    is-nine _ (no-six (e .before .before .before .before)) (no-seven (e .before .before)) (no-eight e)
-    (some-in _ _ _ _ (writes (e .before .before .before .before .before .before .before .before)) (c .before .first-kind .ensures) (c .if4 .taken))
+    let b = c .before in
+    let e = b .before .before in
+    c .found4 .ensures
+    ∙ is-nine _ (no-six (e .before .before .before .before)) (no-seven (e .before .before)) (no-eight e)
+    (some-in _ _ _ _ (writes (e .before .before .before .before .before .before .before .before)) (b .before .first-kind .ensures) (b .if4 .taken))
 
 returns-5 : tie.Need-returns-5
 unfolding valueTx
@@ -85,11 +105,15 @@ entry-fault-spec =
     tie.close
     (tie.spec
     first-read-key-requires
+    found-requires
     returns
     first-version-requires
+    found-requires-2
     returns-2
     first-write-key-requires
+    found-requires-3
     returns-3
     first-kind-requires
+    found-requires-4
     returns-4
     returns-5)

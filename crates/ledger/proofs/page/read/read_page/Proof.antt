@@ -2,6 +2,7 @@
 use mathlib.Core.Path.{_≡_, sym, ap, _∙_}
 use borrow.Author.Needs.{needs}
 use denote.Ref.{now}
+use Rattle.refusals.specs.Fault.{clear}
 use Rattle.ledger.specs.Page.{pageFault}
 use Rattle.ledger.specs.Services.{checked}
 use Rattle.ledger.proofs.Faults.{taken-none, refused-some, read-taken, read-refused}
@@ -9,12 +10,9 @@ use Rattle.ledger.proofs.Pages.{good-counted}
 use Rattle.ledger.proofs.page.read.read_page.Statement.{statement}
 use Rattle.ledger.proofs.page.read.read_page.Tie as tie
 
--- the page of a good check has no fault, and that of a bad one has one
-good : (c : tie.After-enum-told) → pageFault (now (c .before .before .before .before .args .page)) ≡ 0
+-- the page of a good check has no fault
+good : (c : tie.After-enum-told) → pageFault (now (c .before .before .before .before .args .page)) ≡ clear
 good c = taken-none _ _ (ap checked (sym (c .enum-told .given .1)) ∙ c .before .before .check-page .ensures)
-
-bad : (c : tie.After-enum-told2) → pageFault (now (c .before .before .before .before .args .page)) ≡ 0 → ⊥
-bad c = refused-some _ _ (ap checked (sym (c .enum-told2 .given .1)) ∙ c .before .before .check-page .ensures)
 
 check-page-requires : tie.Need-check-page-requires
 check-page-requires c κs = search needs
@@ -31,7 +29,7 @@ nothing-requires c κs = search needs
 returns : tie.Need-returns
 returns c =
     (λ i. record { answer = c .before .before .before .check-page .ensures i; transaction = c .nothing .ensures i })
-    ∙ read-refused _ (bad (c .before))
+    ∙ read-refused _ _ _ (refused-some _ _ _ (ap checked (sym (c .before .enum-told2 .given .1)) ∙ c .before .before .before .check-page .ensures))
 
 transaction-requires : tie.Need-transaction-requires
 transaction-requires c κs = good-counted _ (good c)

@@ -1,0 +1,245 @@
+-- Laws of tables of refusals. Assumes nothing.
+use Prim.Native.Nat.{ℕ, zero, suc, _+_, _≤_, _<_}
+use native.Mathlib.Nat.{eq-or-lt-of-le, add-zero, add-suc, suc-add, zero-add}
+use native.Mathlib.Omega.{arith}
+use mathlib.Core.Bool.{Bool, true, false, true≢false, false≢true}
+use mathlib.Core.List.{List, [], _∷_, _++_}
+use mathlib.Core.Logic.{_↔_, ⊎-elim}
+use mathlib.Core.Path.{_≡_, refl, sym, ap, ap₂, _∙_}
+use lib.Dec.{T}
+use Rattle.lists.specs.Choice.{pick}
+use Rattle.lists.specs.Members.{all}
+use Rattle.lists.specs.Search.{firstIn}
+use Rattle.lists.proofs.Tests.{both, and-left, and-right}
+use Rattle.lists.proofs.Searches.{none, holds, missed, before}
+use Rattle.refusals.specs.Outcome.{Outcome, gives, refuses}
+use Rattle.refusals.specs.Fault.{Fault, clear, fault, Row, row, first, Given, here, later, rowsFrom, inTurn, eachRow, moved, movedFault, judged, after}
+
+-- ---- faults told apart
+
+pub no-fault : {f : Fault} {n p : ℕ} → f ≡ clear → f ≡ fault n p → ⊥
+no-fault e k = let z : _≡_ {A = ℕ} 0 1 = cc in omega arith
+
+pub one-number : {f : Fault} {m p n q : ℕ} → f ≡ fault m p → f ≡ fault n q → m ≡ n
+one-number e k = cc
+
+pub one-place : {f : Fault} {m p n q : ℕ} → f ≡ fault m p → f ≡ fault n q → p ≡ q
+one-place e k = cc
+
+-- what is judged to be given, or refused
+pub judged-gives : {A : Type 0} (f : Fault) (x a : A) → gives x ≡ judged f a → (f ≡ clear) × (x ≡ a)
+judged-gives clear x a e = (refl, cc)
+judged-gives (fault n p) x a e = absurd (let z : _≡_ {A = ℕ} 0 1 = cc in omega arith)
+
+pub judged-refuses : {A : Type 0} (f : Fault) (n p : ℕ) (a : A) → refuses n p ≡ judged f a → f ≡ fault n p
+judged-refuses clear n p a e = absurd (let z : _≡_ {A = ℕ} 0 1 = cc in omega arith)
+judged-refuses (fault m q) n p a e = cc
+
+-- what is lent stays as it was where something is refused
+pub refused-after : {A B : Type 0} (f : Fault) (a : A) (new old : B) (n p : ℕ) → judged f a ≡ refuses n p → after f new old ≡ old
+refused-after clear a new old n p e = absurd (let z : _≡_ {A = ℕ} 0 1 = cc in omega arith)
+refused-after (fault m q) a new old n p e = refl
+
+-- ---- one row, then the others
+
+module _ (r : Row) (rs : List Row) where
+  pub row-there : r .case ≡ true → first (r ∷ rs) ≡ fault (r .number) (r .place)
+  unfolding first
+  row-there e = rw e
+
+  pub row-passed : r .case ≡ false → first (r ∷ rs) ≡ first rs
+  unfolding first
+  row-passed e = rw e
+
+  pub row-none : first (r ∷ rs) ≡ clear → (r .case ≡ false) × (first rs ≡ clear)
+  unfolding first
+  row-none e = go (r .case) e
+    where
+      go : (b : Bool) → pick b (fault (r .number) (r .place)) (first rs) ≡ clear → (b ≡ false) × (first rs ≡ clear)
+      go true q = absurd (no-fault q refl)
+      go false q = (refl, q)
+
+-- ---- some rows, then others
+
+pub append-clear : (xs ys : List Row) → first xs ≡ clear → first (xs ++ ys) ≡ first ys
+append-clear [] ys e = refl
+append-clear (r ∷ rs) ys e =
+    let n = row-none r rs e in
+    row-passed r (rs ++ ys) (n .0) ∙ append-clear rs ys (n .1)
+
+pub append-fault : (xs ys : List Row) {n p : ℕ} → first xs ≡ fault n p → first (xs ++ ys) ≡ fault n p
+unfolding first
+append-fault [] ys e = absurd (no-fault refl e)
+append-fault (r ∷ rs) ys {n} {p} e = go (r .case) e (λ q. append-fault rs ys q)
+  where
+    go : (b : Bool) → pick b (fault (r .number) (r .place)) (first rs) ≡ fault n p → (first rs ≡ fault n p → first (rs ++ ys) ≡ fault n p)
+        → pick b (fault (r .number) (r .place)) (first (rs ++ ys)) ≡ fault n p
+    go true q ih = q
+    go false q ih = ih q
+
+pub append-none : (xs ys : List Row) → first (xs ++ ys) ≡ clear → (first xs ≡ clear) × (first ys ≡ clear)
+append-none xs ys e = go (first xs) refl
+  where
+    go : (f : Fault) → first xs ≡ f → (first xs ≡ clear) × (first ys ≡ clear)
+    go clear h = (h, sym (append-clear xs ys h) ∙ e)
+    go (fault n p) h = absurd (no-fault e (append-fault xs ys h))
+
+-- ---- the rows of indexes, one index after the other
+
+module _ (rows : ℕ → List Row) where
+  from-clear : (i k : ℕ) → ((l : ℕ) → l < k → first (rows (i + l)) ≡ clear) → first (rowsFrom rows i k) ≡ clear
+  unfolding rowsFrom first
+  from-clear i zero h = refl
+  from-clear i (suc k) h =
+      append-clear (rows i) (rowsFrom rows (suc i) k) (rw add-zero at (h 0 (omega arith)))
+      ∙ from-clear (suc i) k (λ l o. rw (suc-add, ← add-suc) (h (suc l) (omega arith)))
+
+  from-none : (i k : ℕ) → first (rowsFrom rows i k) ≡ clear → (l : ℕ) → l < k → first (rows (i + l)) ≡ clear
+  unfolding rowsFrom
+  from-none i zero e l o = absurd (omega arith)
+  from-none i (suc k) e zero o = rw add-zero (append-none (rows i) (rowsFrom rows (suc i) k) e .0)
+  from-none i (suc k) e (suc l) o = rw (add-suc, ← suc-add) (from-none (suc i) k (append-none (rows i) (rowsFrom rows (suc i) k) e .1) l (omega arith))
+
+  from-at : (i k j : ℕ) {n p : ℕ} → j < k → ((l : ℕ) → l < j → first (rows (i + l)) ≡ clear) → first (rows (i + j)) ≡ fault n p → first (rowsFrom rows i k) ≡ fault n p
+  unfolding rowsFrom
+  from-at i zero j o h e = absurd (omega arith)
+  from-at i (suc k) zero o h e = append-fault (rows i) (rowsFrom rows (suc i) k) (rw add-zero at e)
+  from-at i (suc k) (suc j) o h e =
+      append-clear (rows i) (rowsFrom rows (suc i) k) (rw add-zero at (h 0 (omega arith)))
+      ∙ from-at (suc i) k j (omega arith) (λ l q. rw (suc-add, ← add-suc) (h (suc l) (omega arith))) (rw (suc-add, ← add-suc) e)
+
+  -- none is there where none of any index is
+  pub each-clear : (m : ℕ) → ((i : ℕ) → i < m → first (rows i) ≡ clear) → first (inTurn m rows) ≡ clear
+  each-clear m h = from-clear 0 m (λ l o. rw zero-add (h l o))
+
+  pub each-none : (m : ℕ) → first (inTurn m rows) ≡ clear → (i : ℕ) → i < m → first (rows i) ≡ clear
+  each-none m e i o = rw zero-add at (from-none 0 m e i o)
+
+  -- the first is that of the lowest index that has one
+  pub each-at : (m j : ℕ) {n p : ℕ} → j < m → ((i : ℕ) → i < j → first (rows i) ≡ clear) → first (rows j) ≡ fault n p → first (inTurn m rows) ≡ fault n p
+  each-at m j o h e = from-at 0 m j o (λ l q. rw zero-add (h l q)) (rw zero-add e)
+
+-- what a loop over the indexes keeps: none before i has a fault
+pub record Passed (rows : ℕ → List Row) (i : ℕ) : Type 0 where
+  pub none : (j : ℕ) → j < i → first (rows j) ≡ clear
+
+pub passed-begins : (rows : ℕ → List Row) → Passed rows 0
+passed-begins rows = record { none = λ j h. absurd (omega arith) }
+
+pub passed-on : {rows : ℕ → List Row} {i : ℕ} → Passed rows i → first (rows i) ≡ clear → Passed rows (i + 1)
+passed-on {rows} {i} u e = record {
+  none = λ j h. let l : j ≤ i = omega arith in ⊎-elim {C = first (rows j) ≡ clear} (λ q. rw q e) (u .none j) (eq-or-lt-of-le l);
+}
+
+-- one row for each index
+one-clear : (n p : ℕ) (b : Bool) → b ≡ false → first (row n p b ∷ []) ≡ clear
+unfolding first
+one-clear n p b e = rw e
+
+module _ (n m : ℕ) (test : ℕ → Bool) where
+  pub test-clear : ((i : ℕ) → i < m → test i ≡ false) → first (eachRow n m test) ≡ clear
+  test-clear h = each-clear (λ i. row n i (test i) ∷ []) m (λ i o. one-clear n i (test i) (h i o))
+
+  pub test-none : first (eachRow n m test) ≡ clear → (i : ℕ) → i < m → test i ≡ false
+  test-none e i o = row-none (row n i (test i)) [] (each-none (λ j. row n j (test j) ∷ []) m e i o) .0
+
+  -- as a search finds it
+  module _ (x : ℕ) (found : x ≡ firstIn test 0 m) where
+    pub test-found : x < m → first (eachRow n m test) ≡ fault n x
+    test-found h =
+        each-at (λ i. row n i (test i) ∷ []) m x h
+        (λ i o. one-clear n i (test i) (before test m x found i o))
+        (row-there (row n x (test x)) [] (holds test m x found h))
+
+    pub test-missed : m ≤ x → first (eachRow n m test) ≡ clear
+    test-missed h = test-clear (missed test m (none test 0 m x found h))
+
+-- ---- rows with other places
+
+pub first-moved : (f : ℕ → ℕ) (rs : List Row) → first (moved f rs) ≡ movedFault f (first rs)
+unfolding first moved
+first-moved f [] = refl
+first-moved f (r ∷ rs) = go (r .case) (first-moved f rs)
+  where
+    go : (b : Bool) → first (moved f rs) ≡ movedFault f (first rs)
+        → pick b (fault (r .number) (f (r .place))) (first (moved f rs)) ≡ movedFault f (pick b (fault (r .number) (r .place)) (first rs))
+    go true ih = refl
+    go false ih = ih
+
+pub moved-none : (f : ℕ → ℕ) (rs : List Row) → first (moved f rs) ≡ clear → first rs ≡ clear
+moved-none f rs e = go (first rs) (sym (first-moved f rs) ∙ e)
+  where
+    go : (g : Fault) → movedFault f g ≡ clear → g ≡ clear
+    go clear q = refl
+    go (fault n p) q = absurd (no-fault q refl)
+
+-- ---- a number is given, with its place, exactly when its row's case is there and no case before it is
+
+pub first-given : (n p : ℕ) (rs : List Row) → (first rs ≡ fault n p) ↔ Given n p rs
+unfolding first
+first-given n p [] = (λ e. absurd (no-fault refl e), empty)
+  where
+    empty : Given n p [] → first [] ≡ fault n p
+    empty g = elim g [ ]
+first-given n p (r ∷ rs) = go (r .case) refl (first-given n p rs)
+  where
+    go : (b : Bool) → r .case ≡ b → (first rs ≡ fault n p) ↔ Given n p rs → (first (r ∷ rs) ≡ fault n p) ↔ Given n p (r ∷ rs)
+    go true h ih = (
+      λ e. here (one-number (row-there r rs h) e) (one-place (row-there r rs h) e) h,
+      λ g. row-there r rs h ∙ back g,
+    )
+      where
+        back : Given n p (r ∷ rs) → fault (r .number) (r .place) ≡ fault n p
+        back (here a b c) = ap₂ fault a b
+        back (later c g) = absurd (true≢false (sym h ∙ c))
+    go false h ih = (
+      λ e. later h (ih .0 (sym (row-passed r rs h) ∙ e)),
+      λ g. row-passed r rs h ∙ ih .1 (back g),
+    )
+      where
+        back : Given n p (r ∷ rs) → Given n p rs
+        back (here a b c) = absurd (false≢true (sym h ∙ c))
+        back (later c g) = g
+
+-- so for a service that gives something where its table is clear, and refuses with the first row where it is not
+module _ {A : Type 0} (rs : List Row) (answer : Outcome A)
+    (opens : first rs ≡ clear → (x : A) × (answer ≡ gives x))
+    (shuts : (a b : ℕ) → first rs ≡ fault a b → answer ≡ refuses a b) where
+  pub by-table : (n p : ℕ) → (answer ≡ refuses n p) ↔ Given n p rs
+  by-table n p = (λ e. first-given n p rs .0 (go (first rs) refl e), λ g. shuts n p (first-given n p rs .1 g))
+    where
+      go : (f : Fault) → first rs ≡ f → answer ≡ refuses n p → first rs ≡ fault n p
+      go clear h e = absurd (let g = opens h .1 in let z : _≡_ {A = ℕ} 0 1 = cc in omega arith)
+      go (fault a b) h e = let g = shuts a b h in h ∙ cc
+
+pub judged-given : {A : Type 0} (rs : List Row) (a : A) (n p : ℕ) → (judged (first rs) a ≡ refuses n p) ↔ Given n p rs
+judged-given rs a = by-table rs (judged (first rs) a) (λ h. (a, ap (λ f. judged f a) h)) (λ m q h. ap (λ f. judged f a) h)
+
+-- ---- which numbers a table can give
+
+-- each row's number passes the test
+abbrev pub numbered : (ℕ → Bool) → List Row → Bool
+numbered ok rs = all (λ r. ok (r .number)) rs
+
+module _ (ok : ℕ → Bool) where
+  pub numbered-append : (xs ys : List Row) → T (numbered ok xs) → T (numbered ok ys) → T (numbered ok (xs ++ ys))
+  numbered-append [] ys a b = b
+  numbered-append (r ∷ rs) ys a b =
+      both (ok (r .number)) _ (and-left (ok (r .number)) _ a) (numbered-append rs ys (and-right (ok (r .number)) _ a) b)
+
+  numbered-from : (rows : ℕ → List Row) (i k : ℕ) → ((j : ℕ) → T (numbered ok (rows j))) → T (numbered ok (rowsFrom rows i k))
+  unfolding rowsFrom
+  numbered-from rows i zero h = tt
+  numbered-from rows i (suc k) h = numbered-append (rows i) (rowsFrom rows (suc i) k) (h i) (numbered-from rows (suc i) k h)
+
+  pub numbered-turn : (m : ℕ) (rows : ℕ → List Row) → ((j : ℕ) → T (numbered ok (rows j))) → T (numbered ok (inTurn m rows))
+  numbered-turn m rows h = numbered-from rows 0 m h
+
+  pub numbered-moved : (f : ℕ → ℕ) (rs : List Row) → T (numbered ok rs) → T (numbered ok (moved f rs))
+  unfolding moved
+  numbered-moved f [] a = tt
+  numbered-moved f (r ∷ rs) a = both (ok (r .number)) _ (and-left (ok (r .number)) _ a) (numbered-moved f rs (and-right (ok (r .number)) _ a))
+
+  pub given-numbered : {n p : ℕ} {rs : List Row} → Given n p rs → T (numbered ok rs) → T (ok n)
+  given-numbered (here {r = r} {rs = qs} e q c) a = rw e at (and-left (ok (r .number)) (numbered ok qs) a)
+  given-numbered (later {r = r} {rs = qs} c g) a = given-numbered g (and-right (ok (r .number)) (numbered ok qs) a)

@@ -10,13 +10,13 @@ use Rattle.lists.proofs.Membership.{perm-in, perm-length, perm-distinct}
 use Rattle.refusals.specs.Outcome.{gives, refuses}
 use Rattle.refusals.specs.Fault.{Fault, clear, fault}
 use Rattle.orders.specs.Arrange.{Order}
-use Rattle.ledger.specs.Bytes.{tab}
+use Rattle.lists.specs.Tables.{tab}
 use Rattle.ledger.specs.Tx.{Tx}
 use Rattle.ledger.specs.Page.{pageAt}
 use Rattle.ledger.specs.State.{State, keys}
 use Rattle.ledger.specs.Gate.{pages, txAt, gateFault}
 use Rattle.ledger.specs.Commit.{verdicts, passed, commits, commitBatch}
-use Rattle.ledger.proofs.OnPage.{length-tab, getD-tab}
+use Rattle.lists.proofs.Tables.{length-tab, getD-tab}
 use Rattle.ledger.proofs.Gated.{Through, gate-open}
 use Rattle.ledger.proofs.Rising.{write-keys}
 use Rattle.planner.specs.Plan.{before, sequence, kept, verdict, order, gathered, plans, short, planBatch}

@@ -10,7 +10,8 @@ use Rattle.refusals.specs.Fault.{first, rowsFrom, moved}
 use Rattle.tonnage.specs.Text.{digits, widthIn, width, textOf}
 use Rattle.tonnage.specs.Services.{writeText}
 use Rattle.tonnage.specs.Services.{writeRows as textRows}
-use Rattle.ledger.specs.Bytes.{field, weighed, le, flat, tab}
+use Rattle.lists.specs.Tables.{flat, tab}
+use Rattle.octets.specs.Bytes.{field, weighed, le}
 use Rattle.ledger.specs.Version.{at}
 use Rattle.ledger.specs.Tx.{valueTx, floorOf}
 use Rattle.ledger.specs.Page.{countRows, entryRows, headRows, wholeRows, pageRows, pageTx, bodyOf, pageOf}

@@ -11,7 +11,8 @@ use Rattle.ledger.specs.Services.{writePage}
 use Rattle.ledger.specs.Version.{at}
 use Rattle.ledger.specs.Gate.{pages, txAt}
 use Rattle.ledger.specs.Page.{pageTx, pageOf, bodyOf}
-use Rattle.ledger.specs.Bytes.{weighed, le, flat, tab, field}
+use Rattle.lists.specs.Tables.{flat, tab}
+use Rattle.octets.specs.Bytes.{weighed, le, field}
 use Rattle.ledger.specs.Commit.{passes, write, afterPage, commitBatch}
 use Rattle.planner.specs.Plan.{planBatch}
 use Rattle.tonnage.specs.Services.{readText}

@@ -15,11 +15,11 @@ use Rattle.lists.proofs.Membership.{getD-in, apart, rest}
 use Rattle.lists.proofs.Searches.{none-at}
 use Rattle.refusals.specs.Fault.{clear, first}
 use Rattle.refusals.proofs.Rows.{row-none, append-none, each-clear, test-clear}
-use Rattle.ledger.specs.Bytes.{tab}
+use Rattle.lists.specs.Tables.{tab}
 use Rattle.ledger.specs.Page.{pageTx, pageFault, pageAt}
 use Rattle.ledger.specs.State.{State, keys, stateRows}
 use Rattle.ledger.specs.Gate.{pages, txAt, txs, rowsAt, again, beyond, pagesRows, bytesRow, gateRows, gateFault}
-use Rattle.ledger.proofs.OnPage.{tab-same, tab-list}
+use Rattle.lists.proofs.Tables.{tab-same, tab-list}
 use Rattle.ledger.proofs.Gated.{good-at, pages-rest, gate-pages, wrongBytes, not-wrong, Through}
 use Rattle.planner.specs.Plan.{gathered}
 

@@ -12,7 +12,7 @@ use Rattle.refusals.specs.Outcome.{Outcome, gives}
 use Rattle.refusals.specs.Fault.{Fault, clear, fault, first}
 use Rattle.refusals.proofs.Rows.{row-none, row-passed, append-none, judged-gives}
 use Rattle.ledger.specs.declared.Transaction.{Transaction}
-use Rattle.ledger.specs.Bytes.{Small, weighed}
+use Rattle.octets.specs.Bytes.{Small, weighed}
 use Rattle.ledger.specs.Tx.{Tx, valueTx, padded, TransactionFits}
 use Rattle.ledger.specs.Page.{countRows, entryRows, pageTx, pageOf, pageFault, pageAt, placed}
 use Rattle.ledger.specs.Services.{Counts, Taken, readPage, Put, indexRow, writeRows, writeFault, writePage}
@@ -21,7 +21,7 @@ use Rattle.ledger.proofs.Exact.{page-exact}
 use Rattle.ledger.proofs.Faults as faults
 use Rattle.ledger.proofs.OnPage as on
 use Rattle.ledger.proofs.Noticed as noticed
-use Rattle.ledger.proofs.Numbers as numbers
+use Rattle.octets.proofs.Numbers as numbers
 use Rattle.ledger.proofs.Pages.{empty-good, good-counted}
 use Rattle.ledger.proofs.Placed as place
 use Rattle.ledger.proofs.Valued.{value-padded}

@@ -12,7 +12,7 @@ use Rattle.refusals.specs.Fault.{Fault, clear, fault}
 use Rattle.ledger.specs.State.{State, Level, keys, wrongLengths}
 use Rattle.ledger.specs.Gate.{pages, txAt, txs, gateFault}
 use Rattle.ledger.specs.Commit.{Commits, commits, commitBatch}
-use Rattle.ledger.proofs.OnPage.{length-tab}
+use Rattle.lists.proofs.Tables.{length-tab}
 use Rattle.ledger.proofs.Gated.{Through, gate-open}
 use Rattle.ledger.proofs.Commits.{Kept, kept-self, commit-kept}
 use Rattle.planner.specs.Plan.{Plans, sequence, plans, short, planBatch}

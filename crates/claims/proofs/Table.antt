@@ -8,7 +8,8 @@ use Rattle.ledger.specs.Version.{at}
 use Rattle.lists.specs.Search.{seek, firstIn}
 use Rattle.tonnage.specs.Text.{follow, size, laid, form, figure}
 use Rattle.tonnage.specs.Services.{readRows, readText}
-use Rattle.ledger.specs.Bytes.{field, weighed, le, flat, tab}
+use Rattle.lists.specs.Tables.{flat, tab}
+use Rattle.octets.specs.Bytes.{field, weighed, le}
 use Rattle.ledger.specs.Tx.{valueTx, padded, floorOf}
 use Rattle.ledger.specs.Page.{countRows, entryRows, headRows, wholeRows, pageRows, pageTx, bodyOf, pageOf}
 use Rattle.ledger.specs.Services.{readPage, writeRows, writePage}

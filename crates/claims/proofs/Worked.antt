@@ -16,7 +16,8 @@ use Rattle.lists.specs.Ascii.{ascii}
 use Rattle.lists.proofs.Tests.{and-left, and-right}
 use Rattle.tonnage.specs.Text.{digits, widthIn, width, textOf}
 use Rattle.ledger.specs.declared.Write.{Write}
-use Rattle.ledger.specs.Bytes.{field, weighed, le, flat, tab}
+use Rattle.lists.specs.Tables.{flat, tab}
+use Rattle.octets.specs.Bytes.{field, weighed, le}
 use Rattle.ledger.specs.Tx.{Tx, floorOf}
 use Rattle.ledger.specs.Page.{countRows, entryRows, pageTx, bodyOf, pageOf}
 use Rattle.ledger.specs.State.{State, gone, keys, entry, store}

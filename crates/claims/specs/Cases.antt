@@ -8,7 +8,7 @@ use lib.IntN.{ℤ, pos, negsuc}
 use Rattle.refusals.specs.Outcome.{Outcome, gives, refuses}
 use Rattle.tonnage.specs.Services.{readText}
 use Rattle.ledger.specs.declared.Transaction.{Transaction}
-use Rattle.ledger.specs.Bytes.{tab}
+use Rattle.lists.specs.Tables.{tab}
 use Rattle.ledger.specs.declared.Read.{Read}
 use Rattle.ledger.specs.declared.Write.{Write}
 use Rattle.ledger.specs.Version.{absent, at}

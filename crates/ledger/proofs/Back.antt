@@ -13,13 +13,14 @@ use borrow.Author.Tests.{eq-eqb, le-ltb}
 use Rattle.lists.specs.Search.{seek, firstIn, someIn}
 use Rattle.lists.proofs.Searches.{seek-none}
 use Rattle.ledger.specs.declared.Transaction.{Transaction}
-use Rattle.ledger.specs.Bytes.{field, le, weighed, set?, tab, flat, Small}
+use Rattle.lists.specs.Tables.{tab, flat}
+use Rattle.octets.specs.Bytes.{field, le, weighed, set?, Small}
 use Rattle.ledger.specs.Tx.{Tx, noRead, noWrite, readOf, writeOf, valueTx, ReadFits, WriteFits, TransactionFits}
 use Rattle.ledger.specs.Page.{readCount, writeCount, size, readAt, writeAt, readBytes, writeBytes, bodyOf, pageOf, pageTx, countRows, headRows, entryRows, spareRow, pageFault}
-use Rattle.ledger.proofs.Numbers.{check-most}
-use Rattle.ledger.proofs.OnPage.{tab-same, tab-list}
+use Rattle.octets.proofs.Numbers.{check-most}
+use Rattle.lists.proofs.Tables.{tab-same, tab-list}
 use Rattle.ledger.proofs.Stored.{length-read, length-write}
-use Rattle.ledger.proofs.Fields.{field-skip, field-front, field-le, entry-first, entry-second, entry-third, entry-field, small-le, small-cons, small-append, small-entry, small-flat, small-zeros}
+use Rattle.octets.proofs.Fields.{field-skip, field-front, field-le, entry-first, entry-second, entry-third, entry-field, small-le, small-cons, small-append, small-entry, small-flat, small-zeros}
 use Rattle.ledger.proofs.Laid.{front, upToWrites, upToSpare, length-front, length-two, length-three, length-body, length-whole, weighed-front}
 use Rattle.ledger.proofs.Valued.{read-of, write-of}
 use Rattle.refusals.specs.Fault.{clear, first}

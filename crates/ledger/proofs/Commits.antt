@@ -22,14 +22,14 @@ use Rattle.refusals.proofs.Rows.{judged-gives, judged-refuses}
 use Rattle.ledger.specs.declared.Version.{Version}
 use Rattle.ledger.specs.declared.Write.{Write}
 use Rattle.ledger.specs.declared.Committed.the-variants.{Passed}
-use Rattle.ledger.specs.Bytes.{tab}
+use Rattle.lists.specs.Tables.{tab}
 use Rattle.ledger.specs.Version.{at}
 use Rattle.ledger.specs.Tx.{Tx, noRead, readOf, writeOf, noWrite}
 use Rattle.ledger.specs.Page.{pageAt, pageTx}
 use Rattle.ledger.specs.State.{State, Entry, Level, gone, keys, store}
 use Rattle.ledger.specs.Gate.{pages, txAt, txs, gateFault, gate, Batch}
 use Rattle.ledger.specs.Commit.{names, passes, left, write, afterPage, verdict, commit, verdicts, passed, commits, commitBatch, committed}
-use Rattle.ledger.proofs.OnPage.{length-tab}
+use Rattle.lists.proofs.Tables.{length-tab}
 use Rattle.ledger.proofs.Gated.{Through, gate-open}
 
 -- ---- one more at the end

@@ -8,11 +8,12 @@ use lib.Seq.{take-all, take-add, length-take-le}
 use mir.Syntax.{w64}
 use mir.Facts.{ofZ-toZ}
 use Rattle.refusals.specs.Fault.{clear}
-use Rattle.ledger.specs.Bytes.{field, weighed, flat, Small}
+use Rattle.lists.specs.Tables.{flat}
+use Rattle.octets.specs.Bytes.{field, weighed, Small}
 use Rattle.ledger.specs.Tx.{readOf, writeOf}
 use Rattle.ledger.specs.Page.{readCount, writeCount, size, readAt, writeAt, pageTx, readBytes, writeBytes, headBytes, bodyOf, pageOf, pageFault}
 use Rattle.ledger.proofs.OnPage.{count-reads, count-writes, read-is, write-is}
-use Rattle.ledger.proofs.Parts.{part, part-suc, le-field, field-lt, le-entry, flat-parts, zeros-in}
+use Rattle.octets.proofs.Parts.{part, part-suc, le-field, field-lt, le-entry, flat-parts, zeros-in}
 use Rattle.ledger.proofs.Laid.{weighed-front}
 use Rattle.ledger.proofs.Faults.{Headed, Sound, spareFrom, roomy, sound}
 

@@ -11,7 +11,7 @@ use Rattle.lists.proofs.Searches.{some, none}
 use Rattle.refusals.specs.Outcome.{gives, refuses}
 use Rattle.refusals.specs.Fault.{Fault, clear, fault, first}
 use Rattle.refusals.proofs.Rows.{row-none, row-passed, append-clear, append-fault, append-none, judged-gives, judged-refuses}
-use Rattle.ledger.specs.Bytes.{field, weighed, set?}
+use Rattle.octets.specs.Bytes.{field, weighed, set?}
 use Rattle.ledger.specs.Tx.{Tx, valueTx, padded, readOf, writeOf, readOutOfTurn, writeOutOfTurn, wrongVersion, wrongKind}
 use Rattle.ledger.specs.Page.{readCount, writeCount, size, countRows, entryRows, headRows, lengthRow, spareRow, wholeRows, pageRows, pageFault, pageTx, pageOf, placed, Counted}
 use Rattle.ledger.specs.declared.Transaction.{Transaction}

@@ -7,9 +7,11 @@ use native.Mathlib.Omega.{arith}
 use lib.ListN.{length, replicate, length-append, length-replicate, List·getD-append}
 use lib.Seq.{sets, sets-eq, drop-length}
 use Rattle.lists.proofs.Stores.{sets-append}
-use Rattle.ledger.specs.Bytes.{le, flat, weighed}
+use Rattle.lists.specs.Tables.{flat}
+use Rattle.octets.specs.Bytes.{le, weighed}
 use Rattle.ledger.specs.Page.{size, headBytes}
-use Rattle.ledger.proofs.Stored.{length-le, le-zero, length-flat}
+use Rattle.lists.proofs.Tables.{length-flat}
+use Rattle.octets.proofs.Stored.{length-le, le-zero}
 
 -- the check of the front depends on the front alone
 pub weighed-front : (a b : List ℕ) (n : ℕ) → n ≤ length a → weighed (a ++ b) n ≡ weighed a n

@@ -1,12 +1,6 @@
-pub mod Numbers
-pub mod Joined
-pub mod Columns
-pub mod Signed
 pub mod Turns
 pub mod OnPage
 pub mod Stored
-pub mod Fields
-pub mod Parts
 pub mod Laid
 pub mod Valued
 pub mod Placed

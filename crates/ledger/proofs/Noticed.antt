@@ -9,9 +9,9 @@ use native.Mathlib.Omega.{arith}
 use lib.ListN.{length, getD, drop, set, length-set}
 use lib.Seq.{getD-set-same, getD-set-other, getD-take, getD-drop, set-comm}
 use Rattle.refusals.specs.Fault.{clear}
-use Rattle.ledger.specs.Bytes.{field, le, weighed, Small}
+use Rattle.octets.specs.Bytes.{field, le, weighed, Small}
 use Rattle.ledger.specs.Page.{pageFault}
-use Rattle.ledger.proofs.Parts.{part, le-field}
+use Rattle.octets.proofs.Parts.{part, le-field}
 use Rattle.ledger.proofs.Faults.{sound}
 
 weighed-out : (p : List ℕ) (i b n : ℕ) → n ≤ i → weighed (set p i b) n ≡ weighed p n

@@ -5,10 +5,10 @@ use Prim.Native.Nat.{ℕ, _-_, _≤_, _<_}
 use lib.ListN.{length, replicate, length-map}
 use lib.Seq.{getD-take, length-take-le, take-append-seam}
 use Rattle.ledger.specs.declared.Transaction.{Transaction}
-use Rattle.ledger.specs.Bytes.{le, weighed}
+use Rattle.octets.specs.Bytes.{le, weighed}
 use Rattle.ledger.specs.Tx.{Tx, padded, noRead, noWrite, readOf, writeOf, valueTx}
 use Rattle.ledger.specs.Page.{size, headBytes, readBytes, writeBytes, bodyOf, pageOf}
-use Rattle.ledger.proofs.Stored.{flat-same}
+use Rattle.lists.proofs.Tables.{flat-same}
 use Rattle.ledger.proofs.Laid.{body, whole}
 
 -- an entry below the count

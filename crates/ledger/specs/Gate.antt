@@ -11,7 +11,7 @@ use Rattle.refusals.specs.Outcome.{Outcome, gives, refuses}
 use Rattle.refusals.specs.Fault.{Fault, clear, Row, row, first, inTurn, eachRow, moved, judged}
 use Rattle.ledger.specs.declared.Gate.{Gate}
 use Rattle.ledger.specs.declared.Gate.the-variants.{Open, Shut}
-use Rattle.ledger.specs.Bytes.{tab}
+use Rattle.lists.specs.Tables.{tab}
 use Rattle.ledger.specs.Tx.{Tx}
 use Rattle.ledger.specs.Page.{pageTx, wholeRows, pageFault, pageAt}
 use Rattle.ledger.specs.State.{State, keys, stateRows}

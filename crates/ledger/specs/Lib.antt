@@ -1,5 +1,3 @@
-pub mod Bytes
-pub mod Columns
 pub mod Version
 pub mod Tx
 pub mod Page

@@ -11,7 +11,8 @@ use Rattle.lists.specs.Search.{someIn}
 use Rattle.refusals.specs.Fault.{Fault, Row, row, first}
 use Rattle.ledger.specs.declared.Read.{Read}
 use Rattle.ledger.specs.declared.Write.{Write}
-use Rattle.ledger.specs.Bytes.{field, le, weighed, set?, tab, flat}
+use Rattle.lists.specs.Tables.{tab, flat}
+use Rattle.octets.specs.Bytes.{field, le, weighed, set?}
 use Rattle.ledger.specs.Tx.{Tx, readOf, writeOf, readOutOfTurn, writeOutOfTurn, wrongVersion, wrongKind}
 
 -- "1, 2: number of reads r, of writes w"

@@ -60,7 +60,6 @@ pub enum Committed {
 }
 
 pub mod batch;
-mod bytes;
 pub mod commit;
 mod entry;
 pub mod page;

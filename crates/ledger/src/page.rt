@@ -5,5 +5,4 @@ mod fill;
 mod given;
 pub mod held;
 pub mod read;
-mod weight;
 pub mod write;

@@ -15,12 +15,13 @@ use Rattle.ledger.specs.declared.PageRead.{PageRead}
 use Rattle.ledger.specs.declared.Read.{Read}
 use Rattle.ledger.specs.declared.Write.{Write}
 use Rattle.ledger.specs.declared.Transaction.{Transaction}
-use Rattle.ledger.specs.Bytes.{tab}
+use Rattle.lists.specs.Tables.{tab}
 use Rattle.ledger.specs.Version.{at}
 use Rattle.ledger.specs.Tx.{Tx, padded, noRead, noWrite, readOf, writeOf}
 use Rattle.ledger.specs.Page.{pageTx, pageFault}
 use Rattle.ledger.specs.Services.{Taken, readPage, taken, checked}
-use Rattle.ledger.proofs.OnPage.{length-tab, getD-tab, count-reads, count-writes}
+use Rattle.lists.proofs.Tables.{length-tab, getD-tab}
+use Rattle.ledger.proofs.OnPage.{count-reads, count-writes}
 use Rattle.ledger.proofs.Faults.{taken-none, read-taken}
 use Rattle.ledger.proofs.Pages.{good-counted}
 use Rattle.node.specs.Word.{upper}

@@ -5,8 +5,8 @@ use Prim.Native.Nat.{ℕ, suc, _+_, _<_}
 use native.Mathlib.Numerals.{add-one}
 use lib.ListN.{length, getD, drop, set, length-set}
 use lib.Seq.{drop-cons, drop-length, set-at, append-snoc}
-use Rattle.ledger.specs.Bytes.{tab}
-use Rattle.ledger.proofs.OnPage.{length-tab}
+use Rattle.lists.specs.Tables.{tab}
+use Rattle.lists.proofs.Tables.{length-tab}
 
 module _ {X : Type 0} (f : ℕ → X) (ys : List X) where
   -- xs has f in its first i places, and the rest as in ys

@@ -8,7 +8,7 @@ use Rattle.tonnage.specs.Services.{readText, Written}
 use Rattle.ledger.specs.declared.Read.{Read}
 use Rattle.ledger.specs.declared.Write.{Write}
 use Rattle.ledger.specs.declared.Transaction.{Transaction}
-use Rattle.ledger.specs.Bytes.{tab}
+use Rattle.lists.specs.Tables.{tab}
 use Rattle.ledger.specs.Version.{at}
 use Rattle.ledger.specs.Services.{readPage, Put}
 use Rattle.ledger.specs.State.{State}

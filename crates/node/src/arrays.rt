@@ -5,7 +5,7 @@ use ledger::Write;
 ghost use mathlib.Core.Path.{_≡_};
 ghost use lib.ListN.{length, getD};
 ghost use lib.IntN.{pos};
-ghost use Rattle.ledger.specs.Bytes.{tab};
+ghost use Rattle.lists.specs.Tables.{tab};
 ghost use Rattle.ledger.specs.Version.{at};
 ghost use Rattle.ledger.specs.Tx.{readOf, writeOf};
 

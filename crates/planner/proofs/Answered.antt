@@ -20,10 +20,10 @@ use Rattle.orders.specs.Admission.{admit}
 use Rattle.orders.specs.Arrange.{byTicket, schedule}
 use Rattle.orders.proofs.Arranged.{by-ticket-perm}
 use Rattle.sets.specs.Set.{member, members}
-use Rattle.ledger.specs.Bytes.{tab}
+use Rattle.lists.specs.Tables.{tab}
 use Rattle.ledger.specs.State.{State, keys}
 use Rattle.ledger.specs.Gate.{pages, txAt, gateFault, gate, Batch}
-use Rattle.ledger.proofs.OnPage.{tab-same}
+use Rattle.lists.proofs.Tables.{tab-same}
 use Rattle.ledger.proofs.Faults.{or-none}
 use Rattle.ledger.proofs.Gated.{Through, gate-open}
 use Rattle.planner.specs.declared.Planned.the-variants.{Kept}

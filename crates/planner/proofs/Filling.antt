@@ -11,9 +11,9 @@ use lib.Seq.{take-length, drop-length, length-take-le, take-suc, drop-cons, drop
 use Rattle.lists.specs.Choice.{pick}
 use Rattle.lists.specs.Members.{any}
 use Rattle.lists.proofs.Tests.{clash, same-test}
-use Rattle.ledger.specs.Bytes.{tab}
+use Rattle.lists.specs.Tables.{tab}
 use Rattle.ledger.specs.Page.{pageAt}
-use Rattle.ledger.proofs.OnPage.{length-tab}
+use Rattle.lists.proofs.Tables.{length-tab}
 use Rattle.ledger.proofs.Gated.{lent}
 use Rattle.ledger.proofs.Placed.{part-back}
 use Rattle.planner.specs.Ranks.{nth}

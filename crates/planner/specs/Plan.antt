@@ -10,7 +10,7 @@ use Rattle.refusals.specs.Outcome.{Outcome, gives, refuses}
 use Rattle.refusals.specs.Fault.{clear, fault}
 use Rattle.orders.specs.Admission.{admit}
 use Rattle.orders.specs.Arrange.{byTicket, schedule}
-use Rattle.ledger.specs.Bytes.{tab}
+use Rattle.lists.specs.Tables.{tab}
 use Rattle.ledger.specs.Tx.{Tx}
 use Rattle.ledger.specs.Page.{pageAt}
 use Rattle.ledger.specs.State.{State}

@@ -8,7 +8,7 @@ ghost use lib.Dec.{eqb};
 ghost use Rattle.lists.specs.Choice.{pick};
 ghost use Rattle.lists.specs.Members.{any};
 ghost use Rattle.sets.specs.Set.{member};
-ghost use Rattle.ledger.specs.Bytes.{tab};
+ghost use Rattle.lists.specs.Tables.{tab};
 ghost use Rattle.planner.specs.Plan.{gathered};
 
 // The verdicts of a plan.

@@ -8,8 +8,8 @@ use native.Mathlib.Numerals.{add-one}
 use lib.ListN.{length, set, getD, take, length-append}
 use lib.Seq.{sets-eq, take-suc, take-length}
 use Rattle.lists.proofs.Stores.{sets-append}
-use Rattle.ledger.specs.Bytes.{flat}
-use Rattle.ledger.proofs.Stored.{flat-next}
+use Rattle.lists.specs.Tables.{flat}
+use Rattle.lists.proofs.Tables.{flat-next}
 use Rattle.report.specs.Put.{Put}
 use Rattle.report.specs.Listing.{filled}
 

@@ -8,7 +8,7 @@ use Rattle.lists.specs.Choice.{pick}
 use Rattle.lists.specs.Search.{firstIn}
 use Rattle.lists.specs.Ascii.{ascii}
 use Rattle.tonnage.specs.Text.{digits, width, textOf}
-use Rattle.ledger.specs.Bytes.{flat}
+use Rattle.lists.specs.Tables.{flat}
 use Rattle.ledger.specs.State.{State, Entry, keys, entry, isGone, wrongLengths}
 use Rattle.ledger.specs.Gate.{pages, txAt}
 

@@ -10,7 +10,7 @@ ghost use mathlib.Core.List.{[]};
 ghost use lib.ListN.{length, getD};
 ghost use lib.Dec.{eqb};
 ghost use Rattle.lists.specs.Search.{firstIn};
-ghost use Rattle.ledger.specs.Bytes.{flat};
+ghost use Rattle.lists.specs.Tables.{flat};
 ghost use Rattle.lists.specs.Choice.{pick};
 ghost use Rattle.ledger.specs.State.{stateOf, isGone};
 ghost use Rattle.ledger.specs.Gate.{pages, txAt};

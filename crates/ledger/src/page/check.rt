@@ -1,10 +1,10 @@
 // The check of a page, on the bytes where they lie: each search of the entries gives where it stopped.
 use crate::PageCheck;
-use crate::bytes;
 use crate::entry;
 use crate::page::counts;
 use crate::page::held;
-use crate::page::weight;
+use octets::bytes;
+use octets::weight;
 use refusals::Finding;
 use refusals::Refusal;
 ghost use mathlib.Core.Path.{_≡_};

@@ -2,15 +2,15 @@
 use crate::Read;
 use crate::Transaction;
 use crate::Write;
-use crate::bytes;
 use crate::page::check;
 use crate::page::counts;
-use crate::page::weight;
+use octets::bytes;
+use octets::weight;
 ghost use mathlib.Core.Path.{_≡_};
 ghost use Prim.Native.Nat.{_+_, _*_, _≤_};
 ghost use lib.ListN.{length};
 ghost use lib.Seq.{sets};
-ghost use Rattle.ledger.specs.Bytes.{flat};
+ghost use Rattle.lists.specs.Tables.{flat};
 ghost use Rattle.ledger.specs.Tx.{valueTx, readOf, writeOf};
 ghost use Rattle.ledger.specs.Page.{readBytes, writeBytes, headBytes, pageOf, size};
 

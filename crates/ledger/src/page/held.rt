@@ -2,7 +2,7 @@
 use crate::Read;
 use crate::Version;
 use crate::Write;
-use crate::bytes;
+use octets::bytes;
 ghost use mathlib.Core.Path.{_≡_};
 ghost use Prim.Native.Nat.{_≤_, _<_};
 ghost use lib.ListN.{length};

@@ -8,7 +8,7 @@ use denote.Ref.{now}
 use lib.ListN.{length, drop, set}
 use Rattle.lists.specs.Choice.{pick}
 use Rattle.sets.specs.Set.{member}
-use Rattle.ledger.specs.Bytes.{tab}
+use Rattle.lists.specs.Tables.{tab}
 use Rattle.planner.proofs.Filling.{fills, fills-long}
 use Rattle.planner.proofs.fill.fill_verdicts.Statement.{statement}
 use Rattle.planner.proofs.fill.fill_verdicts.Tie as tie

@@ -7,7 +7,7 @@ use mir.Syntax.{w64}
 use mir.Facts.{toZ-ofZ}
 use lib.ListN.{length}
 use borrow.Author.Needs.{needs}
-use Rattle.ledger.specs.Bytes.{flat}
+use Rattle.lists.specs.Tables.{flat}
 use Rattle.ledger.specs.State.{stateOf}
 use Rattle.report.specs.Put.{Put}
 use Rattle.report.specs.Listing.{keyLine}

@@ -6,7 +6,7 @@ use native.Mathlib.Omega.{arith}
 use denote.Ref.{now}
 use lib.ListN.{length, getD}
 use borrow.Author.Needs.{needs}
-use Rattle.ledger.specs.Bytes.{flat}
+use Rattle.lists.specs.Tables.{flat}
 use Rattle.ledger.specs.Page.{pageTx}
 use Rattle.ledger.specs.Gate.{txAt}
 use Rattle.ledger.proofs.Gated.{lent}

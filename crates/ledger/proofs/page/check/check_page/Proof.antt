@@ -8,7 +8,7 @@ use denote.Ref.{now}
 use Rattle.lists.specs.Search.{someIn}
 use Rattle.refusals.specs.Fault.{clear, first, finding}
 use Rattle.refusals.proofs.Rows.{row-there, row-passed}
-use Rattle.ledger.specs.Bytes.{set?}
+use Rattle.octets.specs.Bytes.{set?}
 use Rattle.ledger.specs.Page.{entryRows, spareRow, pageFault, pageTx, Counted}
 use Rattle.ledger.proofs.OnPage.{count-reads, count-writes}
 use Rattle.ledger.proofs.Faults.{headFault, spareFrom, head-counted, by-head, by-entries, by-spare, check-refused, check-taken}

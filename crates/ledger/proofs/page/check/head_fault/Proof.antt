@@ -4,7 +4,7 @@ use native.Mathlib.Omega.{arith}
 use borrow.Author.Needs.{needs}
 use denote.Ref.{now}
 use lib.ListN.{length, getD}
-use Rattle.ledger.specs.Bytes.{field, weighed}
+use Rattle.octets.specs.Bytes.{field, weighed}
 use Rattle.ledger.proofs.Faults.{is-one, is-two, is-mark, is-three, is-counts}
 use Rattle.ledger.proofs.page.check.head_fault.Statement.{statement}
 use Rattle.ledger.proofs.page.check.head_fault.Tie as tie

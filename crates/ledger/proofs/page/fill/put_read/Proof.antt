@@ -1,7 +1,7 @@
 -- `put_read`: the three numbers one after the other.
 use borrow.Author.Needs.{needs}
 use denote.Ref.{now}
-use Rattle.ledger.proofs.Stored.{puts}
+use Rattle.octets.proofs.Stored.{puts}
 use Rattle.ledger.proofs.page.fill.put_read.Statement.{statement}
 use Rattle.ledger.proofs.page.fill.put_read.Tie as tie
 

@@ -5,10 +5,11 @@ use mathlib.Core.Path.{_≡_, refl, _∙_}
 use native.Mathlib.Nat.{le-antisymm}
 use lib.ListN.{length}
 use lib.Seq.{sets}
-use Rattle.ledger.specs.Bytes.{flat}
+use Rattle.lists.specs.Tables.{flat}
 use Rattle.ledger.specs.Tx.{readOf}
 use Rattle.ledger.specs.Page.{readBytes}
-use Rattle.ledger.proofs.Stored.{flat-more, length-read}
+use Rattle.lists.proofs.Tables.{flat-more}
+use Rattle.ledger.proofs.Stored.{length-read}
 use Rattle.ledger.proofs.page.fill.put_reads.Statement.{statement}
 use Rattle.ledger.proofs.page.fill.put_reads.Tie as tie
 

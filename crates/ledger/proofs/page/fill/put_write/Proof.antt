@@ -4,7 +4,7 @@ use denote.Ref.{now}
 use mir.Syntax.{w64}
 use mir.Val.{ofZ}
 use mir.Facts.{toZ-ofZ}
-use Rattle.ledger.proofs.Stored.{puts}
+use Rattle.octets.proofs.Stored.{puts}
 use Rattle.ledger.proofs.page.fill.put_write.Statement.{statement}
 use Rattle.ledger.proofs.page.fill.put_write.Tie as tie
 

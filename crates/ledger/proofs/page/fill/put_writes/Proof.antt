@@ -5,10 +5,11 @@ use mathlib.Core.Path.{_≡_, refl, _∙_}
 use native.Mathlib.Nat.{le-antisymm}
 use lib.ListN.{length}
 use lib.Seq.{sets}
-use Rattle.ledger.specs.Bytes.{flat}
+use Rattle.lists.specs.Tables.{flat}
 use Rattle.ledger.specs.Tx.{writeOf}
 use Rattle.ledger.specs.Page.{writeBytes}
-use Rattle.ledger.proofs.Stored.{flat-more, length-write}
+use Rattle.lists.proofs.Tables.{flat-more}
+use Rattle.ledger.proofs.Stored.{length-write}
 use Rattle.ledger.proofs.page.fill.put_writes.Statement.{statement}
 use Rattle.ledger.proofs.page.fill.put_writes.Tie as tie
 

@@ -7,6 +7,8 @@
  *
  * What the caller owes: a pointer is aligned and not null, also where its length is 0, and has as many entries
  * as its length says; what is lent to be filled overlaps nothing else that is lent in the same call.
+ * This no service can check. Where a pointer is null or astray, or lists overlap, nothing that stands here is certain:
+ * not what is returned, not what is filled, not that other memory stays, and not that the call returns.
  * Nothing is kept after the return, and there is no state between calls.
  *
  * No. | Given when                                                         | Place
@@ -33,6 +35,19 @@
  *  20 | text buffer shorter than the text                                  | 0
  *
  * m is the number of pages of a batch, K the length of the state lists. Reading and writing a page give page 0.
+ *
+ * The forms that the table speaks of:
+ *   version of a read   absent, which is block 0 and place 65535; or any block with a place of 0 to 63
+ *   state entry         absent, which is block 0, place 65535 and value 0; or present: any block below n with a place
+ *                       of 0 to 63, and any value. Block 4 with place 65535 is neither, nor is absent with a value.
+ *   text                an optional minus, whole tonnes without needless leading zeros (a lone 0 is needed), a comma,
+ *                       exactly three digits, and nothing else. "-0,000" is no figure. "68,400" and "-0,050" are of the
+ *                       form; "684", "68,4", "068,400", ",400", "+1,000" and "" are not.
+ *   page                512 bytes, all numbers little-endian: byte 0 the mark, hex 54; bytes 1 and 2 r and w; byte 3
+ *                       zero; bytes 4 to 7 the ticket; from byte 8 on r reads of 8 bytes (key 2, place 2, block 4), then
+ *                       w writes of 12 bytes (key 2, kind 2, value 8 signed); spare bytes up to 507, which are zero;
+ *                       bytes 508 to 511 the check, the sum over bytes 0 to 507 of (offset + 1) times the byte.
+ * Keys rise strictly within the reads and within the writes; one key may stand in both.
  */
 #ifndef NEVOLISCA_H
 #define NEVOLISCA_H

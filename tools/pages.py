@@ -1,11 +1,17 @@
 #!/usr/bin/env python3
 """tools/pages.py NAME > FILE: writes the standard input of a run of the listing program, from document 01's page layout.
 
-NAME is listing, refused, empty, too_long or correction. The expected listings stand in crates/*/stdout.
+NAME is listing, refused, empty, too_long or correction. The expected listings stand in crates/listing/stdout and tests/listing/NAME/stdout.
 """
 import sys
 
 ABSENT = (0, 65535)
+
+
+def sealed(front):
+    """A page of which the front is given: zeros up to byte 507, then the check."""
+    front = front[:508].ljust(508, b"\0")
+    return front + sum((i + 1) * x for i, x in enumerate(front)).to_bytes(4, "little")
 
 
 def page(ticket, reads=(), puts=()):
@@ -13,8 +19,7 @@ def page(ticket, reads=(), puts=()):
     head = bytes([0x54, len(reads), len(puts), 0]) + ticket.to_bytes(4, "little")
     body = b"".join(k.to_bytes(2, "little") + p.to_bytes(2, "little") + b.to_bytes(4, "little") for k, (b, p) in reads)
     body += b"".join(k.to_bytes(2, "little") + bytes(2) + v.to_bytes(8, "little", signed=True) for k, v in puts)
-    front = (head + body).ljust(508, b"\0")
-    return front + sum((i + 1) * x for i, x in enumerate(front)).to_bytes(4, "little")
+    return sealed(head + body)
 
 
 def listing():

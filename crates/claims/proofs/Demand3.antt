@@ -1,148 +1,134 @@
 -- Demand 3 is met: for each sequence of admission, and for the ticket order that plan uses. Assumes nothing.
-use Prim.Native.Nat.{ℕ, zero, suc, _*_, _≤_, _<_}
+use Prim.Native.Nat.{ℕ, _*_, _<_}
 use native.Mathlib.Omega.{arith}
-use mathlib.Core.List.{List, _++_, List·Memᴰ·head, Memᴰ·append-right, Permᴰ·symm}
+use mathlib.Core.List.{List, _∷_, List·Memᴰ·head, List·Memᴰ·tail, List·Memᴰ·cases-cons}
+use mathlib.Core.List.{List·Permᴰ, List·Permᴰ·trans, Permᴰ·symm}
+use mathlib.Core.Logic.{⊎-elim}
 use mathlib.Core.Path.{_≡_, refl, sym, ap, subst, _∙_}
-use lib.ListN.{length, getD, take, drop, replicate, List·getD-append}
+use lib.ListN.{length, take, drop, List·getD-append}
 use lib.Seq.{take-at, take-append-seam}
+use lib.Dec.{T}
 use Rattle.lists.specs.Members.{_∈_}
-use Rattle.lists.proofs.Membership.{perm-in, perm-length, perm-distinct}
-use Rattle.refusals.specs.Outcome.{gives, refuses}
-use Rattle.refusals.specs.Fault.{Fault, clear, fault}
+use Rattle.lists.proofs.Membership.{perm-in, perm-length}
+use Rattle.refusals.specs.Outcome.{gives}
+use Rattle.refusals.specs.Fault.{clear, first}
+use Rattle.orders.specs.Chain.{Cycle}
 use Rattle.orders.specs.Arrange.{Order}
+use Rattle.orders.proofs.Chains.{cycle-mono}
+use Rattle.orders.proofs.Arranged.{alike-perm}
 use Rattle.lists.specs.Tables.{tab}
 use Rattle.ledger.specs.Tx.{Tx}
-use Rattle.ledger.specs.Page.{pageAt}
-use Rattle.ledger.specs.State.{State, keys}
-use Rattle.ledger.specs.Gate.{pages, txAt, gateFault}
-use Rattle.ledger.specs.Commit.{verdicts, passed, commits, commitBatch}
+use Rattle.ledger.specs.State.{State, versions}
+use Rattle.ledger.specs.Gate.{pages, txAt}
 use Rattle.lists.proofs.Tables.{length-tab, getD-tab}
-use Rattle.ledger.proofs.Gated.{Through, gate-open}
-use Rattle.ledger.proofs.Rising.{write-keys}
-use Rattle.planner.specs.Plan.{before, sequence, kept, verdict, order, gathered, plans, short, planBatch}
-use Rattle.claims.specs.Serial.{Rules, Fits, run, Serial}
-use Rattle.claims.specs.Third.{Sequence, Third}
-use Rattle.claims.proofs.Outcomes.{apart, value}
-use Rattle.claims.proofs.Running.{Waiting, waiting, made-pages, commit-runs, fails-none, key-below, ends-last, ends-unwritten}
-use Rattle.claims.proofs.Planning.{sequence-perm, kept-distinct, kept-current, kept-below, kept-few, own-order, verdict-kept, closes-cycle}
-use Rattle.claims.proofs.OutBatch.{gathered-long, gathered-pages, gathered-txs, gathered-open}
-
--- as many zeros, as many passes
-passed-zeros : (n : ℕ) → passed (replicate n 0) ≡ n
-unfolding passed
-passed-zeros zero = refl
-passed-zeros (suc n) = ap suc (passed-zeros n)
+use Rattle.ledger.proofs.Gated.{gate-open}
+use Rattle.planning.specs.Plan.{current, before, sequence, kept, verdict, order, gathered, Plans, plans, planRows, planBatch}
+use Rattle.claims.specs.Third.{verdictAt, zeros, Sequence, Certain}
+use Rattle.refusals.proofs.Answers.{value}
+use Rattle.planning.proofs.Opened.{plan-open, plan-clear}
+use Rattle.planning.proofs.Opened.{own as mine}
+use Rattle.claims.proofs.AnyOrder.{zeros-out, zeros-in, zeros-distinct, make-third}
+use Rattle.claims.proofs.Planning.{sequence-perm, kept-distinct, kept-current, kept-below, own-order}
+use Rattle.claims.proofs.Planning.{verdict-kept, verdict-small, verdict-stale, closes-cycle}
+use Rattle.claims.proofs.OutBatch.{gathered-whole}
 
 module _ (batch : List ℕ) (s : State) (n : ℕ) (seq vs os out : List ℕ) (q : Sequence batch s seq)
-    (c : gateFault (short batch vs os out) batch s n ≡ clear) where
+    (c : first (planRows batch s n vs os out) ≡ clear) where
   abbrev b : ℕ → Tx
   b = txAt batch
+
+  abbrev p : Plans
+  p = plans batch (versions s) seq vs os out
 
   -- our own order
   abbrev own : List ℕ
   own = order b seq
 
-  through : Through (short batch vs os out) batch s n
-  through = gate-open (short batch vs os out) batch s n c
+  pub verdict-at : (i : ℕ) → i < pages batch → verdictAt (p .verdicts) i ≡ verdict (versions s) b seq i
+  unfolding plans
+  verdict-at i h =
+      List·getD-append (tab (pages batch) (verdict (versions s) b seq)) (drop (pages batch) vs) 3 i
+      (rw (length-tab (verdict (versions s) b seq) (pages batch)) h)
+      ∙ getD-tab (verdict (versions s) b seq) (pages batch) i 3 h
 
-  back : {ls : List ℕ} → Order (before b) (kept b seq) ls → {i : ℕ} → i ∈ ls → i ∈ kept b seq
-  back o m = perm-in (Permᴰ·symm (o .all-once)) m
+  -- the pages with verdict 0 are the kept
+  pub zeros-kept : List·Permᴰ (zeros batch (p .verdicts)) (kept b seq)
+  zeros-kept =
+      alike-perm (zeros batch (p .verdicts)) (kept b seq)
+      (zeros-distinct batch (p .verdicts)) (kept-distinct (versions s) b (pages batch) seq q)
+      (λ i. (there i, back i))
+    where
+      there : (i : ℕ) → i ∈ zeros batch (p .verdicts) → i ∈ kept b seq
+      there i m =
+          let w = zeros-out batch (p .verdicts) m in
+          verdict-kept (versions s) b (pages batch) seq q i .0 (sym (verdict-at i (w .0)) ∙ w .1)
 
-  -- at the start each of an order is still to run
-  ready : (rule : Rules) → Fits b s (kept b seq) rule → (ls : List ℕ) → Order (before b) (kept b seq) ls → Waiting b s rule s ls
-  ready rule fit ls o =
-      waiting b s rule ls (o .forward)
-      (perm-distinct (o .all-once) (kept-distinct s b (pages batch) seq q))
-      (λ i m. fit i (back o m))
-      (λ i m. kept-current s b (pages batch) seq q (back o m))
+      back : (i : ℕ) → i ∈ kept b seq → i ∈ zeros batch (p .verdicts)
+      back i m =
+          let h = kept-below (versions s) b (pages batch) seq q m in
+          zeros-in batch (p .verdicts) i h (verdict-at i h ∙ verdict-kept (versions s) b (pages batch) seq q i .1 m)
 
-  serial : (rule : Rules) → Fits b s (kept b seq) rule → (ls : List ℕ) → Order (before b) (kept b seq) ls → Serial b n s rule ls
-  serial rule fit ls o = record {
-    makes-page = made-pages b n s rule 0 s ls (ready rule fit ls o);
-    last-writer = λ xs i ys e w m f.
-        let page = through .ready .each i (kept-below s b (pages batch) seq q (back o (rw e (Memᴰ·append-right xs (List·Memᴰ·head refl))))) in
-        ends-last b n s rule ls (ready rule fit ls o) xs i ys w e (through .level) m (write-keys (pageAt batch i) (page .good)) (key-below (keys s) (b i) (page .within) m) f;
-    unwritten = ends-unwritten b n s rule ls (ready rule fit ls o);
-  }
-
-  -- "Our own order is such an order"
-  own-is : Order (before b) (kept b seq) own
-  own-is = own-order s b (pages batch) seq q
+  own-is : Order (before b) (zeros batch (p .verdicts)) own
+  own-is =
+      let o = own-order (versions s) b (pages batch) seq q in
+      record { all-once = List·Permᴰ·trans zeros-kept (o .all-once); forward = o .forward }
 
   inside : (i : ℕ) → i ∈ own → i < pages batch
-  inside i m = kept-below s b (pages batch) seq q (back own-is m)
+  inside i m = zeros-out batch (p .verdicts) (perm-in (Permᴰ·symm (own-is .all-once)) m) .0
 
-  few : length own ≤ 64
-  few = omega (arith, perm-length (own-is .all-once), kept-few s b (pages batch) seq q, through .ready .few)
+  fresh : (i : ℕ) → i < pages batch → verdictAt (p .verdicts) i ≡ 0 → T (current (versions s) b i)
+  fresh i h e =
+      kept-current (versions s) b (pages batch) seq q (verdict-kept (versions s) b (pages batch) seq q i .0 (sym (verdict-at i h) ∙ e))
 
-  -- the commit of the kept pages
-  commits-own :
-      (rule : Rules) → Fits b s (kept b seq) rule → (ws : List ℕ) → length own ≤ length ws →
-      commitBatch (gathered batch own) s n ws ≡ record {
-        answer = gives (length own);
-        state = run b n 0 rule s own;
-        verdicts = replicate (length own) 0 ++ drop (length own) ws;
-      }
-  unfolding commitBatch commits
-  commits-own rule fit ws l =
-      let z = ready rule fit own own-is in
-      let w = through .ready .whole in
-      rw (gathered-open (short batch vs os out) batch s n c through own (perm-distinct (own-is .all-once) (kept-distinct s b (pages batch) seq q)) inside ws few l, commitBatch)
-      (rw (
-        gathered-txs batch (pages batch) w own inside,
-        fails-none b n s rule 0 s own z,
-        commit-runs b n s rule 0 s own z,
-        passed-zeros (length own),
-        gathered-pages batch (pages batch) w own inside,
-      ))
+  cycle : (i : ℕ) → i < pages batch → verdictAt (p .verdicts) i ≡ 2 → Cycle (before b) (i ∷ zeros batch (p .verdicts))
+  cycle i h e =
+      cycle-mono (before b) {ks = i ∷ kept b seq}
+      (λ x m. ⊎-elim List·Memᴰ·head (λ k. List·Memᴰ·tail (perm-in (Permᴰ·symm zeros-kept) k)) (List·Memᴰ·cases-cons m))
+      (closes-cycle (versions s) b (pages batch) seq q i h (sym (verdict-at i h) ∙ e))
 
-  third-own : Third batch s n seq (length own) (plans batch s seq vs os out)
+  order-front : take (length own) (p .order) ≡ own
   unfolding plans
-  third-own = record {
-    kept-ones = λ i h. rw (verdict-at i h) (verdict-kept s b (pages batch) seq q i);
-    any-order = serial;
-    ours = rw order-front own-is;
-    commits = λ rule fit ws l. rw (out-front, order-front) (commits-own rule fit ws l);
-    thrown-out = λ i h e. closes-cycle s b (pages batch) seq q i h (sym (verdict-at i h) ∙ e);
-  }
+  order-front = take-append-seam own (drop (length own) os)
+
+  out-front : take (512 * length own) (p .out) ≡ gathered batch own
+  unfolding plans
+  out-front =
+      take-at (gathered batch own) (drop (512 * length own) out) (512 * length own)
+      (omega (arith, gathered-whole batch (pages batch) whole own inside))
     where
-      verdict-at : (i : ℕ) → i < pages batch → getD (plans batch s seq vs os out .verdicts) i 0 ≡ verdict s b seq i
-      verdict-at i h =
-          List·getD-append (tab (pages batch) (verdict s b seq)) (drop (pages batch) vs) 0 i (rw (length-tab (verdict s b seq) (pages batch)) h)
-          ∙ getD-tab (verdict s b seq) (pages batch) i 0 h
+      whole : length batch ≡ pages batch * 512
+      whole = gate-open (mine batch s n vs os out) batch s n c .ready .whole
 
-      order-front : take (length own) (plans batch s seq vs os out .order) ≡ own
-      order-front = take-append-seam own (drop (length own) os)
-
-      out-front : take (512 * length own) (plans batch s seq vs os out .out) ≡ gathered batch own
-      out-front =
-          take-at (gathered batch own) (drop (512 * length own) out) (512 * length own)
-          (omega (arith, gathered-long batch (pages batch) (through .ready .whole) own inside))
+  certain-own : Certain batch s n (length own) p
+  certain-own = record {
+    third = rw order-front (make-third (mine batch s n vs os out) batch s n (p .verdicts) own c fresh own-is cycle);
+    out-pages = rw order-front out-front;
+    count = sym (perm-length (own-is .all-once));
+    each-verdict = λ i h. rw (verdict-at i h) (verdict-small (versions s) b seq i);
+    stale = λ i h. rw (verdict-at i h) (verdict-stale (versions s) b seq i);
+  }
 
 -- over any sequence of admission
 pub third :
     (batch : List ℕ) (s : State) (n : ℕ) (seq vs os out : List ℕ) (k : ℕ) →
     Sequence batch s seq →
-    gateFault (short batch vs os out) batch s n ≡ clear →
-    plans batch s seq vs os out .answer ≡ gives k →
-    Third batch s n seq k (plans batch s seq vs os out)
+    first (planRows batch s n vs os out) ≡ clear →
+    plans batch (versions s) seq vs os out .answer ≡ gives k →
+    Certain batch s n k (plans batch (versions s) seq vs os out)
 unfolding plans
 third batch s n seq vs os out k q c a =
-    subst (λ (j : ℕ). Third batch s n seq j (plans batch s seq vs os out)) (value refl a) (third-own batch s n seq vs os out q c)
+    subst (λ (j : ℕ). Certain batch s n j (plans batch (versions s) seq vs os out)) (value refl a)
+    (certain-own batch s n seq vs os out q c)
 
 -- the ticket order is the sequence that plan uses
 pub demand-3 :
     (batch : List ℕ) (s : State) (n : ℕ) (vs os out : List ℕ) (k : ℕ) →
     planBatch batch s n vs os out .answer ≡ gives k →
-    Third batch s n (sequence s (txAt batch) (pages batch)) k (planBatch batch s n vs os out)
-unfolding planBatch
-demand-3 batch s n vs os out k a = go (gateFault (short batch vs os out) batch s n) refl
-  where
-    go : (f : Fault) → gateFault (short batch vs os out) batch s n ≡ f → Third batch s n (sequence s (txAt batch) (pages batch)) k (planBatch batch s n vs os out)
-    go clear c =
-        let e : planBatch batch s n vs os out ≡ plans batch s (sequence s (txAt batch) (pages batch)) vs os out = rw (c, planBatch) in
-        rw e
-        (third batch s n (sequence s (txAt batch) (pages batch)) vs os out k (sequence-perm s (txAt batch) (pages batch)) c (ap (λ p. p .answer) (sym e) ∙ a))
-    go (fault x p) c =
-        let e : planBatch batch s n vs os out ≡ record { answer = refuses x p; verdicts = vs; order = os; out = out } = rw (c, planBatch) in
-        absurd (apart a (ap (λ p. p .answer) e))
+    Certain batch s n k (planBatch batch s n vs os out)
+demand-3 batch s n vs os out k a =
+    let seq = sequence (versions s) (txAt batch) (pages batch) in
+    let c = plan-clear batch s n vs os out a .0 in
+    let e = plan-open batch s n vs os out c in
+    rw (← e)
+    (third batch s n seq vs os out k (sequence-perm (versions s) (txAt batch) (pages batch)) c
+    (ap (λ (p : Plans). p .answer) e ∙ a))

@@ -17,7 +17,7 @@ use Rattle.ledger.specs.Tx.{valueTx, floorOf}
 use Rattle.ledger.specs.Page.{countRows, entryRows, headRows, wholeRows, pageRows, pageTx, bodyOf, pageOf}
 use Rattle.ledger.specs.Services.{readPage, checkPage, writeRows, writePage}
 use Rattle.ledger.specs.State.{State, stateOf, entry, stateRows}
-use Rattle.ledger.specs.Gate.{pagesRows, gateRows}
+use Rattle.ledger.specs.Gate.{frontRows, pagesRows, gateRows}
 use Rattle.ledger.specs.Commit.{commitBatch}
 use Rattle.claims.specs.Cases.{tx, none, put, counted, bytes7, fresh, number, batchOf}
 
@@ -80,27 +80,27 @@ answer batch s vs = commitBatch batch s number vs .answer
 
 module _ where
   pub batch-11 : answer (replicate 511 0) fresh [] ≡ refuses 11 0
-  unfolding commitBatch first gateRows stateRows
+  unfolding commitBatch first gateRows frontRows stateRows
   batch-11 = refl
 
   pub batch-12 : answer [] (stateOf [] [] []) [] ≡ refuses 12 0
-  unfolding commitBatch first gateRows stateRows
+  unfolding commitBatch first gateRows frontRows stateRows
   batch-12 = refl
 
   pub batch-13 : answer [] wrong [] ≡ refuses 13 3
-  unfolding commitBatch first rowsFrom gateRows stateRows firstIn seek entry
+  unfolding commitBatch first rowsFrom gateRows frontRows stateRows firstIn seek entry
   batch-13 = refl
 
   pub batch-14 : answer (replicate 512 0) fresh [] ≡ refuses 14 0
-  unfolding commitBatch first rowsFrom gateRows stateRows firstIn seek entry
+  unfolding commitBatch first rowsFrom gateRows frontRows stateRows firstIn seek entry
   batch-14 = refl
 
   pub batch-15 : answer (batchOf (tx 5 [] [] ∷ tx 5 [] [] ∷ [])) fresh (replicate 2 9) ≡ refuses 15 1
-  unfolding commitBatch first rowsFrom moved gateRows stateRows pagesRows firstIn seek entry batchOf wholeRows headRows countRows entryRows pageTx weighed field le flat tab bodyOf pageOf floorOf
+  unfolding commitBatch first rowsFrom moved gateRows frontRows stateRows pagesRows firstIn seek entry batchOf wholeRows headRows countRows entryRows pageTx weighed field le flat tab bodyOf pageOf floorOf
   batch-15 = refl
 
   pub batch-16 : answer (batchOf (tx 5 [] [] ∷ tx 6 (none 8 ∷ []) [] ∷ [])) fresh (replicate 2 9) ≡ refuses 16 1
-  unfolding commitBatch first rowsFrom moved gateRows stateRows pagesRows firstIn seek entry batchOf wholeRows headRows countRows entryRows pageTx weighed field le flat tab bodyOf pageOf floorOf
+  unfolding commitBatch first rowsFrom moved gateRows frontRows stateRows pagesRows firstIn seek entry batchOf wholeRows headRows countRows entryRows pageTx weighed field le flat tab bodyOf pageOf floorOf
   batch-16 = refl
 
 -- ---- writing a page, and writing a text

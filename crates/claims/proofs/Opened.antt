@@ -1,12 +1,11 @@
--- The gate over absent keys lets the pages of good transactions through: by laws, so that no check of a page has to be computed. Assumes nothing.
-use Prim.Native.Nat.{ℕ, zero, suc, _+_, _*_, _^_, _≤_, _<_}
+-- The gate lets the pages of good transactions through, over absent keys and over any good state: by laws, so that no check of a page has to be computed. Assumes nothing.
+use Prim.Native.Nat.{ℕ, zero, suc, _*_, _^_, _≤_, _<_}
 use native.Mathlib.Omega.{arith}
 use mathlib.Core.Bool.{Bool, true, false, _&&_, _||_}
 use mathlib.Core.List.{List, [], _∷_, _++_}
 use mathlib.Core.Path.{_≡_, refl, ap, _∙_}
-use lib.ListN.{length, take, drop, replicate, length-append, length-replicate, getD-replicate}
+use lib.ListN.{length, replicate, length-append, length-replicate, getD-replicate}
 use lib.IntN.{pos}
-use lib.Seq.{take-at, drop-append-add}
 use lib.Signed.{mag}
 use lib.Dec.{T, ltb, ltb→lt}
 use mir.Syntax.{w64}
@@ -14,7 +13,7 @@ use mir.Val.{hbits}
 use borrow.Author.Tests.{le-ltb}
 use Rattle.refusals.specs.Fault.{Fault, clear, fault}
 use Rattle.refusals.specs.Fault.{first as firstOf}
-use Rattle.refusals.proofs.Rows.{append-none, each-clear, test-clear}
+use Rattle.refusals.proofs.Rows.{append-none, each-clear, one-clear, test-clear}
 use Rattle.lists.specs.Members.{all}
 use Rattle.lists.proofs.Tests.{and-left, and-right}
 use Rattle.lists.proofs.Membership.{all-out, getD-in}
@@ -22,16 +21,17 @@ use Rattle.ledger.specs.declared.Read.{Read}
 use Rattle.ledger.specs.declared.Write.{Write}
 use Rattle.ledger.specs.Tx.{Tx, noRead, noWrite, readOf, writeOf, ReadFits, WriteFits}
 use Rattle.ledger.specs.Page.{countRows, entryRows, pageFault, pageOf, pageAt}
-use Rattle.ledger.specs.State.{stateOf, gone, keys, entry, wrongEntry, wrongLengths, stateRows}
-use Rattle.ledger.specs.Gate.{pages, rowsAt, pagesRows, gateFault}
-use Rattle.ledger.proofs.Gated.{good-at, ticketRows, keyRows, pages-rest, state-rest, not-wrong}
+use Rattle.ledger.specs.State.{State, stateOf, gone, keys, entry, wrongEntry, wrongLengths, stateRows}
+use Rattle.ledger.specs.Gate.{pages, rowsAt, pagesRows}
+use Rattle.ledger.proofs.Gated.{good-at, ticketRows, keyRows, pages-rest, state-rest, front-clear, gate-pages, not-wrong}
 use Rattle.ledger.proofs.Back.{Fitting, good-back}
 use Rattle.ledger.proofs.Pages.{good-counted}
-use Rattle.planner.specs.Plan.{short}
+use Rattle.planning.specs.Plan.{short, planRows}
+use Rattle.planning.proofs.Opened.{own}
 use Rattle.lister.specs.Written.{first}
 use Rattle.claims.specs.Cases.{batchOf}
 use Rattle.claims.specs.Shown.{start}
-use Rattle.claims.proofs.OutBatch.{gate-clear}
+use Rattle.claims.proofs.OutBatch.{page-first, page-next}
 use Rattle.claims.proofs.Shown.{long}
 
 -- ---- absent keys
@@ -124,37 +124,52 @@ unfolding batchOf
 pages-good [] t i h = absurd (omega arith)
 pages-good (x ∷ xs) t zero h =
     let g = and-left (good x) (all good xs) t in
-    ap pageFault (take-at (pageOf x) (batchOf xs) 512 (page-long x g)) ∙ good-page x g
+    ap pageFault (page-first (pageOf x) (batchOf xs) (page-long x g)) ∙ good-page x g
 pages-good (x ∷ xs) t (suc i) h =
-    let e : suc i * 512 ≡ length (pageOf x) + i * 512 = omega (arith, page-long x (and-left (good x) (all good xs) t)) in
-    ap (λ k. pageFault (take 512 (drop k (pageOf x ++ batchOf xs)))) e
-    ∙ ap (λ l. pageFault (take 512 l)) (drop-append-add (pageOf x) (batchOf xs) (i * 512))
+    ap pageFault (page-next (pageOf x) (batchOf xs) i (page-long x (and-left (good x) (all good xs) t)))
     ∙ pages-good xs (and-right (good x) (all good xs) t) i (omega arith)
 
 -- ---- the gate lets them through
 
--- what the gate looks for after the faults of each page: 15 and 16
+-- what the gate looks for after the faults of each page, under k keys: 15 and 16
+abbrev pub after : List ℕ → ℕ → Fault
+after input k = firstOf (ticketRows input k ++ keyRows input k)
+
+pages-clear :
+    (input : List ℕ) (k : ℕ) → ((i : ℕ) → i < pages input → pageFault (pageAt input i) ≡ clear) →
+    after input k ≡ clear → firstOf (pagesRows input k) ≡ clear
+pages-clear input k f g =
+    let h = append-none (ticketRows input k) (keyRows input k) g in
+    pages-rest input k (each-clear (rowsAt input) (pages input) (λ i l. good-at input i (f i l))) (h .0) ∙ h .1
+
+-- over any state without a fault, with lists that are long enough
+pub open-over :
+    (xs : List Tx) (s : State) (n : ℕ) (vs os out : List ℕ) → T (all good xs) → length xs ≤ 64 →
+    firstOf (stateRows s n) ≡ clear → short (batchOf xs) vs os out ≡ false → after (batchOf xs) (keys s) ≡ clear →
+    firstOf (planRows (batchOf xs) s n vs os out) ≡ clear
+open-over xs s n vs os out t few e f g =
+    let l : length (batchOf xs) ≡ length xs * 512 = batch-long xs t in
+    let p : pages (batchOf xs) ≡ length xs = omega arith in
+    gate-pages (own (batchOf xs) s n vs os out) (batchOf xs) s n
+    (front-clear (batchOf xs) s n (not-wrong (batchOf xs) (omega arith) (omega arith)) e)
+    (one-clear 14 0 (short (batchOf xs) vs os out) f)
+    ∙ pages-clear (batchOf xs) (keys s) (λ i h. pages-good xs t i (omega arith)) g
+
+-- over the keys and the lists of the listing program
 abbrev pub later : List ℕ → Fault
-later input = firstOf (ticketRows input 1024 ++ keyRows input 1024)
+later input = after input 1024
 
 -- what it finds in an input of the program
 abbrev pub shut : List ℕ → Fault
-shut input = gateFault (short input (replicate 64 0) (replicate 64 0) (replicate 32768 0)) input start first
+shut input = firstOf (planRows input start first (replicate 64 0) (replicate 64 0) (replicate 32768 0))
 
 not-short : (m v o u : ℕ) → m ≤ 64 → 64 ≤ v → 64 ≤ o → 32768 ≤ u → (ltb v m || ltb o m || ltb u (512 * m)) ≡ false
 not-short m v o u h a b c = rw (le-ltb v m (omega arith), le-ltb o m (omega arith), le-ltb u (512 * m) (omega arith))
 
-pages-clear : (input : List ℕ) → ((i : ℕ) → i < pages input → pageFault (pageAt input i) ≡ clear) → later input ≡ clear → firstOf (pagesRows input 1024) ≡ clear
-pages-clear input f g =
-    let h = append-none (ticketRows input 1024) (keyRows input 1024) g in
-    pages-rest input 1024 (each-clear (rowsAt input) (pages input) (λ i l. good-at input i (f i l))) (h .0) ∙ h .1
-
 pub open-gate : (xs : List Tx) → T (all good xs) → length xs ≤ 64 → later (batchOf xs) ≡ clear → shut (batchOf xs) ≡ clear
 open-gate xs t few e =
     let l : length (batchOf xs) ≡ length xs * 512 = batch-long xs t in
-    let p : pages (batchOf xs) ≡ length xs = omega arith in
-    gate-clear (short (batchOf xs) (replicate 64 0) (replicate 64 0) (replicate 32768 0)) (batchOf xs) start first
-    (not-wrong (batchOf xs) (omega arith) (omega arith))
-    start-rows
-    (not-short (pages (batchOf xs)) _ _ _ (omega arith) (long 64 0) (long 64 0) (long 32768 0))
-    (rw start-keys (pages-clear (batchOf xs) (λ i h. pages-good xs t i (omega arith)) e))
+    let p : pages (batchOf xs) ≤ 64 = omega arith in
+    open-over xs start first (replicate 64 0) (replicate 64 0) (replicate 32768 0) t few start-rows
+    (not-short (pages (batchOf xs)) _ _ _ p (long 64 0) (long 64 0) (long 32768 0))
+    (ap (after (batchOf xs)) start-keys ∙ e)

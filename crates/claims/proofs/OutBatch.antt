@@ -2,26 +2,27 @@
 use Prim.Native.Nat.{ℕ, zero, suc, _+_, _*_, _≤_, _<_}
 use native.Mathlib.Decide.{decLt}
 use native.Mathlib.Omega.{arith}
-use mathlib.Core.Bool.{Bool, false}
+use mathlib.Core.Bool.{false}
 use mathlib.Core.List.{List, [], _∷_, _++_, map, map-append, List·Memᴰ·head, List·Memᴰ·tail}
 use mathlib.Core.Path.{_≡_, refl, sym, ap, _∙_}
-use lib.ListN.{length, getD, take, drop, length-append, length-take, length-drop}
+use lib.ListN.{length, getD, take, drop}
 use lib.Seq.{take-at, drop-append-add}
 use lib.Dec.{T, eqb, ltb}
 use borrow.Author.Tests.{le-ltb, ne-eqb}
 use Rattle.lists.specs.Members.{_∈_, distinct}
-use Rattle.lists.proofs.Tests.{differ}
-use Rattle.lists.proofs.Membership.{getD-in, apart, rest}
+use Rattle.lists.proofs.Membership.{getD-in, distinct-at}
 use Rattle.lists.proofs.Searches.{none-at}
-use Rattle.refusals.specs.Fault.{clear, first}
-use Rattle.refusals.proofs.Rows.{row-none, append-none, each-clear, test-clear}
+use Rattle.refusals.specs.Fault.{clear, first, Row}
+use Rattle.refusals.proofs.Rows.{one-clear, each-clear, test-clear}
 use Rattle.lists.specs.Tables.{tab}
 use Rattle.ledger.specs.Page.{pageTx, pageFault, pageAt}
-use Rattle.ledger.specs.State.{State, keys, stateRows}
-use Rattle.ledger.specs.Gate.{pages, txAt, txs, rowsAt, again, beyond, pagesRows, bytesRow, gateRows, gateFault}
+use Rattle.ledger.specs.State.{State, keys}
+use Rattle.ledger.specs.Gate.{pages, txAt, txs, rowsAt, again, beyond, lentRow, pagesRows, gateFault}
+use Rattle.ledger.specs.Commit.{commitRows}
 use Rattle.lists.proofs.Tables.{tab-same, tab-list}
-use Rattle.ledger.proofs.Gated.{good-at, pages-rest, gate-pages, wrongBytes, not-wrong, Through}
-use Rattle.planner.specs.Plan.{gathered}
+use Rattle.ledger.proofs.Gated.{page-long, good-at, pages-rest, front-clear, front-good, gate-pages, open-front, not-wrong, Through}
+use Rattle.planning.specs.Plan.{gathered}
+use Rattle.planner.proofs.Filling.{gathered-long}
 
 -- ---- lists
 
@@ -34,52 +35,35 @@ map-tab f g (suc n) = map-append f (tab n g) (g n ∷ []) ∙ ap (λ l. l ++ (f 
 tab-map : {X : Type 0} (f : ℕ → X) (is : List ℕ) → tab (length is) (λ j. f (getD is j 0)) ≡ map f is
 tab-map f is = sym (map-tab f (λ j. getD is j 0) (length is)) ∙ ap (map f) (tab-list is 0)
 
--- two places of a list without repetition hold two numbers
-distinct-at : (is : List ℕ) → T (distinct is) → (i j : ℕ) → j < i → i < length is → getD is j 0 ≡ getD is i 0 → ⊥
-distinct-at [] d i j l h e = omega arith
-distinct-at (x ∷ is) d zero j l h e = omega arith
-distinct-at (x ∷ is) d (suc i) zero l h e = differ x (getD is i 0) (apart x is d (getD-in is i 0 (omega arith))) e
-distinct-at (x ∷ is) d (suc i) (suc j) l h e = distinct-at is (rest x is d) i j (omega arith) (omega arith) e
-
--- ---- the gate
-
--- what the gate says of the state alone
-state-good : (short : Bool) (batch : List ℕ) (s : State) (n : ℕ) → gateFault short batch s n ≡ clear → first (stateRows s n) ≡ clear
-unfolding gateRows
-state-good short batch s n e = append-none (stateRows s n) _ (row-none (bytesRow batch) _ e .1) .0
-
-pub gate-clear :
-    (short : Bool) (batch : List ℕ) (s : State) (n : ℕ) →
-    wrongBytes batch ≡ false → first (stateRows s n) ≡ clear → short ≡ false → first (pagesRows batch (keys s)) ≡ clear →
-    gateFault short batch s n ≡ clear
-gate-clear short batch s n e f h p = gate-pages short batch s n e f h ∙ p
-
 -- ---- pages gathered
 
-module _ (batch : List ℕ) (m : ℕ) (whole : length batch ≡ m * 512) where
-  page-long : (i : ℕ) → i < m → length (pageAt batch i) ≡ 512
-  page-long i h = simp (length-take, length-drop) (omega arith)
+-- a page in front of others, and those behind it
+pub page-first : (p rest : List ℕ) → length p ≡ 512 → pageAt (p ++ rest) 0 ≡ p
+page-first p rest l = take-at p rest 512 l
 
-  pub gathered-long : (is : List ℕ) → ((i : ℕ) → i ∈ is → i < m) → length (gathered batch is) ≡ length is * 512
-  unfolding gathered
-  gathered-long [] f = refl
-  gathered-long (i ∷ is) f =
-      let a = page-long i (f i (List·Memᴰ·head refl)) in
-      let b = gathered-long is (λ j k. f j (List·Memᴰ·tail k)) in
-      length-append (pageAt batch i) (gathered batch is) ∙ omega arith
+pub page-next : (p rest : List ℕ) (j : ℕ) → length p ≡ 512 → pageAt (p ++ rest) (suc j) ≡ pageAt rest j
+page-next p rest j l =
+    let e : suc j * 512 ≡ length p + j * 512 = omega arith in
+    ap (λ k. take 512 (drop k (p ++ rest))) e ∙ ap (take 512) (drop-append-add p rest (j * 512))
+
+module _ (batch : List ℕ) (m : ℕ) (whole : length batch ≡ m * 512) where
+  page-whole : (i : ℕ) → i < m → length (pageAt batch i) ≡ 512
+  page-whole i h = page-long batch i (omega arith)
+
+  pub gathered-whole : (is : List ℕ) → ((i : ℕ) → i ∈ is → i < m) → length (gathered batch is) ≡ length is * 512
+  gathered-whole is f = gathered-long batch is (λ i k. omega (arith, f i k))
 
   gathered-page : (is : List ℕ) → ((i : ℕ) → i ∈ is → i < m) → (j : ℕ) → j < length is → pageAt (gathered batch is) j ≡ pageAt batch (getD is j 0)
   unfolding gathered
   gathered-page [] f j h = absurd (omega arith)
-  gathered-page (i ∷ is) f zero h = take-at (pageAt batch i) (gathered batch is) 512 (page-long i (f i (List·Memᴰ·head refl)))
+  gathered-page (i ∷ is) f zero h =
+      page-first (pageAt batch i) (gathered batch is) (page-whole i (f i (List·Memᴰ·head refl)))
   gathered-page (i ∷ is) f (suc j) h =
-      let e : suc j * 512 ≡ length (pageAt batch i) + j * 512 = omega (arith, page-long i (f i (List·Memᴰ·head refl))) in
-      ap (λ k. take 512 (drop k (pageAt batch i ++ gathered batch is))) e
-      ∙ ap (take 512) (drop-append-add (pageAt batch i) (gathered batch is) (j * 512))
+      page-next (pageAt batch i) (gathered batch is) j (page-whole i (f i (List·Memᴰ·head refl)))
       ∙ gathered-page is (λ x k. f x (List·Memᴰ·tail k)) j (omega arith)
 
   pub gathered-pages : (is : List ℕ) → ((i : ℕ) → i ∈ is → i < m) → pages (gathered batch is) ≡ length is
-  gathered-pages is f = let e = gathered-long is f in omega arith
+  gathered-pages is f = let e = gathered-whole is f in omega arith
 
   pub gathered-txs : (is : List ℕ) → ((i : ℕ) → i ∈ is → i < m) → txs (gathered batch is) ≡ map (txAt batch) is
   unfolding txs
@@ -90,7 +74,7 @@ module _ (batch : List ℕ) (m : ℕ) (whole : length batch ≡ m * 512) where
 
 -- ---- pages of a batch that the gate let through
 
-module _ (short : Bool) (batch : List ℕ) (s : State) (n : ℕ) (c : gateFault short batch s n ≡ clear) (t : Through short batch s n)
+module _ (own : List Row) (batch : List ℕ) (s : State) (n : ℕ) (c : gateFault own batch s n ≡ clear) (t : Through batch s n)
     (is : List ℕ) (once : T (distinct is)) (inside : (i : ℕ) → i ∈ is → i < pages batch) where
   page-is : (j : ℕ) → j < length is → pageAt (gathered batch is) j ≡ pageAt batch (getD is j 0)
   page-is = gathered-page batch (pages batch) (t .ready .whole) is inside
@@ -110,7 +94,7 @@ module _ (short : Bool) (batch : List ℕ) (s : State) (n : ℕ) (c : gateFault 
   none-again i h =
       none-at (λ j. eqb (txAt (gathered batch is) j .ticket) (txAt (gathered batch is) i .ticket)) i
       (λ j l. ne-eqb (txAt (gathered batch is) j .ticket) (txAt (gathered batch is) i .ticket)
-      (λ e. no-ticket (getD is j 0) (getD is i 0) (inside-at j (omega arith)) (inside-at i h) (distinct-at is once i j l h)
+      (λ e. no-ticket (getD is j 0) (getD is i 0) (inside-at j (omega arith)) (inside-at i h) (distinct-at is once j i l h)
       (ap (λ p. pageTx p .ticket) (sym (page-is j (omega arith))) ∙ e ∙ ap (λ p. pageTx p .ticket) (page-is i h))))
 
   pages-clear : first (pagesRows (gathered batch is) (keys s)) ≡ clear
@@ -124,13 +108,12 @@ module _ (short : Bool) (batch : List ℕ) (s : State) (n : ℕ) (c : gateFault 
       (λ i h. ap (λ p. beyond (keys s) (pageTx p)) (page-is i (rw m at h)) ∙ t .ready .each (getD is i 0) (inside-at i (rw m at h)) .within)
 
   -- the gate lets them through, with verdicts enough for 14
-  pub gathered-open : (vs : List ℕ) → length is ≤ 64 → length is ≤ length vs → gateFault (ltb (length vs) (pages (gathered batch is))) (gathered batch is) s n ≡ clear
+  pub gathered-open : (vs : List ℕ) → length is ≤ 64 → length is ≤ length vs → first (commitRows (gathered batch is) s n vs) ≡ clear
   gathered-open vs few long =
-      let l = gathered-long batch (pages batch) (t .ready .whole) is inside in
+      let l = gathered-whole batch (pages batch) (t .ready .whole) is inside in
       let m = gathered-pages batch (pages batch) (t .ready .whole) is inside in
-      let g = state-good short batch s n c in
-      gate-clear (ltb (length vs) (pages (gathered batch is))) (gathered batch is) s n
-      (not-wrong (gathered batch is) (omega arith) (omega arith))
-      g
-      (le-ltb (length vs) (pages (gathered batch is)) (omega arith))
-      pages-clear
+      let g = open-front own batch s n c in
+      gate-pages (lentRow (ltb (length vs) (pages (gathered batch is))) ∷ []) (gathered batch is) s n
+      (front-clear (gathered batch is) s n (not-wrong (gathered batch is) (omega arith) (omega arith)) (front-good batch s n g))
+      (one-clear 14 0 _ (le-ltb (length vs) (pages (gathered batch is)) (omega arith)))
+      ∙ pages-clear

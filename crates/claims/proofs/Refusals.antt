@@ -1,88 +1,53 @@
 -- Demand 1: a number is given, with its place, exactly when the table says so, and a refusal changes nothing. Assumes nothing.
-use Prim.Native.Nat.{ℕ, _/_, _≤_}
+use Prim.Native.Nat.{ℕ, _/_, _≤_, _<_}
 use mathlib.Core.Bool.{Bool, true, _&&_}
 use mathlib.Core.List.{List, [], _∷_}
 use mathlib.Core.Logic.{_↔_}
-use mathlib.Core.Path.{_≡_, refl, ap, _∙_}
+use mathlib.Core.Path.{_≡_}
 use lib.ListN.{length}
 use lib.IntN.{ℤ}
-use lib.Dec.{T, ltb, leb, leb→le}
-use Rattle.refusals.specs.Outcome.{Outcome, gives, refuses}
+use lib.Dec.{T, leb, leb→le}
+use borrow.Author.Tests.{lt-ltb, le-ltb}
+use Rattle.refusals.specs.Outcome.{refuses}
 use Rattle.lists.proofs.Tests.{both, and-left, and-right}
-use Rattle.refusals.specs.Fault.{Fault, clear, fault, row, Given, inTurn, eachRow}
-use Rattle.refusals.proofs.Rows.{by-table, judged-given, refused-after, numbered, numbered-append, numbered-turn, numbered-moved, given-numbered}
+use Rattle.refusals.specs.Fault.{row, first, Given, inTurn, eachRow}
+use Rattle.refusals.proofs.Rows.{judged-given, refused-after, numbered, numbered-append, numbered-turn, numbered-moved, given-numbered}
 use Rattle.tonnage.specs.Services.{readRows, readText, writeText}
 use Rattle.tonnage.specs.Services.{writeRows as textRows}
 use Rattle.ledger.specs.declared.Transaction.{Transaction}
-use Rattle.ledger.specs.Page.{pageAt, countRows, entryRows, headRows, wholeRows, pageRows}
+use Rattle.ledger.specs.Page.{size, pageAt, countRows, entryRows, headRows, wholeRows, pageRows}
 use Rattle.ledger.specs.Services.{checkPage, readPage, writeRows, writeFault, writePage}
 use Rattle.ledger.specs.State.{State, keys, entry, wrongEntry, stateRows}
-use Rattle.ledger.specs.Gate.{pages, txAt, again, beyond, rowsAt, pagesRows, gateRows, gateFault}
-use Rattle.ledger.specs.Commit.{Commits, commits, commitBatch}
-use Rattle.planner.specs.Plan.{Plans, plans, short, sequence, planBatch}
-use Rattle.claims.proofs.Outcomes.{apart}
+use Rattle.ledger.specs.Gate.{pages, txAt, again, beyond, rowsAt, frontRows, lentRow, pagesRows, gateRows}
+use Rattle.ledger.specs.Commit.{commitRows, commitBatch}
+use Rattle.planning.specs.Plan.{planRows, planBatch}
 
 -- ---- the services on batches
 
 module _ (batch : List ℕ) (s : State) (n : ℕ) (vs os out : List ℕ) where
-  plan-open : gateFault (short batch vs os out) batch s n ≡ clear → planBatch batch s n vs os out ≡ plans batch s (sequence s (txAt batch) (pages batch)) vs os out
-  unfolding planBatch
-  plan-open h = rw (h, planBatch)
-
-  plan-shut : (a b : ℕ) → gateFault (short batch vs os out) batch s n ≡ fault a b → planBatch batch s n vs os out ≡ record { answer = refuses a b; verdicts = vs; order = os; out = out }
-  unfolding planBatch
-  plan-shut a b h = rw (h, planBatch)
-
-  plan-gives : (seq : List ℕ) → (k : ℕ) × (plans batch s seq vs os out .answer ≡ gives k)
-  unfolding plans
-  plan-gives seq = (_, refl)
-
   -- plan: "A refusal carries the number that document 01 gives it, exactly when 01 says"
-  pub plan-refused : (m p : ℕ) → (planBatch batch s n vs os out .answer ≡ refuses m p) ↔ Given m p (gateRows (short batch vs os out) batch s n)
-  plan-refused =
-      by-table (gateRows (short batch vs os out) batch s n) (planBatch batch s n vs os out .answer)
-      (λ h. let g = plan-gives (sequence s (txAt batch) (pages batch)) in (g .0, ap (λ (x : Plans). x .answer) (plan-open h) ∙ g .1))
-      (λ a b h. ap (λ (x : Plans). x .answer) (plan-shut a b h))
+  pub plan-refused : (m p : ℕ) → (planBatch batch s n vs os out .answer ≡ refuses m p) ↔ Given m p (planRows batch s n vs os out)
+  unfolding planBatch
+  plan-refused = judged-given (planRows batch s n vs os out) _
 
   -- "and changes nothing lent"
   pub plan-unchanged :
       (m p : ℕ) → planBatch batch s n vs os out .answer ≡ refuses m p →
       (planBatch batch s n vs os out .verdicts ≡ vs) × (planBatch batch s n vs os out .order ≡ os) × (planBatch batch s n vs os out .out ≡ out)
-  plan-unchanged m p e = go (gateFault (short batch vs os out) batch s n) refl
-    where
-      go : (f : Fault) → gateFault (short batch vs os out) batch s n ≡ f → (planBatch batch s n vs os out .verdicts ≡ vs) × (planBatch batch s n vs os out .order ≡ os) × (planBatch batch s n vs os out .out ≡ out)
-      go clear h = absurd (apart (ap (λ (x : Plans). x .answer) (plan-open h) ∙ plan-gives (sequence s (txAt batch) (pages batch)) .1) e)
-      go (fault a b) h = let r = plan-shut a b h in (ap (λ (x : Plans). x .verdicts) r, ap (λ (x : Plans). x .order) r, ap (λ (x : Plans). x .out) r)
+  unfolding planBatch
+  plan-unchanged m p e =
+      let f = first (planRows batch s n vs os out) in
+      (refused-after f _ _ vs m p e, refused-after f _ _ os m p e, refused-after f _ _ out m p e)
 
 module _ (batch : List ℕ) (s : State) (n : ℕ) (vs : List ℕ) where
-  abbrev few : Bool
-  few = ltb (length vs) (pages batch)
-
-  commit-open : gateFault few batch s n ≡ clear → commitBatch batch s n vs ≡ commits batch s n vs
-  unfolding commitBatch
-  commit-open h = rw (h, commitBatch)
-
-  commit-shut : (a b : ℕ) → gateFault few batch s n ≡ fault a b → commitBatch batch s n vs ≡ record { answer = refuses a b; state = s; verdicts = vs }
-  unfolding commitBatch
-  commit-shut a b h = rw (h, commitBatch)
-
-  commit-gives : (k : ℕ) × (commits batch s n vs .answer ≡ gives k)
-  unfolding commits
-  commit-gives = (_, refl)
-
   -- commit: the same
-  pub commit-refused : (m p : ℕ) → (commitBatch batch s n vs .answer ≡ refuses m p) ↔ Given m p (gateRows few batch s n)
-  commit-refused =
-      by-table (gateRows few batch s n) (commitBatch batch s n vs .answer)
-      (λ h. (commit-gives .0, ap (λ (x : Commits). x .answer) (commit-open h) ∙ commit-gives .1))
-      (λ a b h. ap (λ (x : Commits). x .answer) (commit-shut a b h))
+  pub commit-refused : (m p : ℕ) → (commitBatch batch s n vs .answer ≡ refuses m p) ↔ Given m p (commitRows batch s n vs)
+  unfolding commitBatch
+  commit-refused = judged-given (commitRows batch s n vs) _
 
   pub commit-unchanged : (m p : ℕ) → commitBatch batch s n vs .answer ≡ refuses m p → (commitBatch batch s n vs .state ≡ s) × (commitBatch batch s n vs .verdicts ≡ vs)
-  commit-unchanged m p e = go (gateFault few batch s n) refl
-    where
-      go : (f : Fault) → gateFault few batch s n ≡ f → (commitBatch batch s n vs .state ≡ s) × (commitBatch batch s n vs .verdicts ≡ vs)
-      go clear h = absurd (apart (ap (λ (x : Commits). x .answer) (commit-open h) ∙ commit-gives .1) e)
-      go (fault a b) h = let r = commit-shut a b h in (ap (λ (x : Commits). x .state) r, ap (λ (x : Commits). x .verdicts) r)
+  unfolding commitBatch
+  commit-unchanged m p e = let f = first (commitRows batch s n vs) in (refused-after f _ _ s m p e, refused-after f _ _ vs m p e)
 
 -- ---- the services on pages
 
@@ -94,12 +59,20 @@ page-refused p = judged-given (pageRows p) _
 -- writing a page: "4 to 9, then 17"
 pub write-refused : (batch : List ℕ) (index : ℕ) (t : Transaction) (n q : ℕ) → (writePage batch index t .answer ≡ refuses n q) ↔ Given n q (writeRows t index (length batch / 512))
 unfolding writePage
-write-refused batch index t = judged-given (writeRows t index (length batch / 512)) tt
+write-refused batch index t = judged-given (writeRows t index (length batch / 512)) _
 
 -- "and changes nothing lent"
 pub write-unchanged : (batch : List ℕ) (index : ℕ) (t : Transaction) (n q : ℕ) → writePage batch index t .answer ≡ refuses n q → writePage batch index t .batch ≡ batch
 unfolding writePage
 write-unchanged batch index t n q e = refused-after (writeFault t index (length batch / 512)) _ _ _ n q e
+
+-- "A transaction wider than its page is refused, never cut": with 5 where its counts are good, and the batch stays
+pub wider-refused :
+    (batch : List ℕ) (index : ℕ) (t : Transaction) → t .r ≤ 32 → t .w ≤ 32 → 500 < size (t .r) (t .w) →
+    writePage batch index t ≡ record { answer = refuses 5 0; batch = batch }
+unfolding writePage writeRows countRows first
+wider-refused batch index t h k l =
+    rw (le-ltb 32 (t .r) h, le-ltb 32 (t .w) k, lt-ltb 500 (size (t .r) (t .w)) l)
 
 -- ---- the services on texts
 
@@ -126,11 +99,11 @@ whole-numbers p = tt
 each-numbers : (number m : ℕ) (test : ℕ → Bool) → T (within 2 16 number) → T (numbered (within 2 16) (eachRow number m test))
 each-numbers number m test h = numbered-turn (within 2 16) m (λ j. row number j (test j) ∷ []) (λ j. both (within 2 16 number) true h tt)
 
-gate-numbers : (b : Bool) (batch : List ℕ) (s : State) (n : ℕ) → T (numbered (within 2 16) (gateRows b batch s n))
-unfolding gateRows stateRows pagesRows
+gate-numbers : (b : Bool) (batch : List ℕ) (s : State) (n : ℕ) → T (numbered (within 2 16) (gateRows (lentRow b ∷ []) batch s n))
+unfolding gateRows frontRows stateRows pagesRows
 gate-numbers b batch s n =
     let ok = within 2 16 in
-    numbered-append ok (stateRows s n) (row 14 0 b ∷ pagesRows batch (keys s))
+    numbered-append ok (frontRows batch s n) (lentRow b ∷ pagesRows batch (keys s))
     (each-numbers 13 (keys s) (λ k. wrongEntry n (entry s k)) tt)
     (numbered-append ok (inTurn (pages batch) (rowsAt batch)) _
     (numbered-turn ok (pages batch) (rowsAt batch) (λ j. numbered-moved ok (λ _. j) (wholeRows (pageAt batch j)) (whole-numbers (pageAt batch j))))

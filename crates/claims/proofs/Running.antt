@@ -2,33 +2,33 @@
 use Prim.Native.Nat.{ℕ, suc, _+_, _<_}
 use native.Mathlib.Nat.{add-zero, add-suc, suc-add}
 use native.Mathlib.Omega.{arith}
-use mathlib.Core.Bool.{Bool, true, false, not, _||_}
+use mathlib.Core.Bool.{Bool, true, false, not}
 use mathlib.Core.List.{List, [], _∷_, _++_, map, List·Memᴰ·head, List·Memᴰ·tail}
 use mathlib.Core.Logic.{⊎-elim}
 use mathlib.Core.Path.{_≡_, refl, sym, ap, ap₂, _∙_}
 use lib.ListN.{length, replicate}
 use lib.Seq.{getD-set-same, getD-set-other}
 use lib.IntN.{pos}
-use lib.Dec.{T, T-not, not-T, eqb, ltb, eqb-refl, eqb→eq, ltb→lt}
-use borrow.Author.Tests.{ne-eqb}
+use lib.Dec.{T, T-not, not-T, ltb, ltb→lt}
 use Rattle.lists.specs.Choice.{pick}
 use Rattle.lists.specs.Members.{_∈_, any, all, distinct}
-use Rattle.lists.proofs.Tests.{both, and-left, and-right, is-true, clash, decide, eqb-sym, differ}
-use Rattle.lists.proofs.Membership.{any-in, any-out, all-out, all-same, apart, rest}
-use Rattle.lists.proofs.Searches.{any-search, none-at}
+use Rattle.lists.proofs.Tests.{and-left, and-right, is-true, clash, decide, differ}
+use Rattle.lists.proofs.Membership.{any-in, all-out, in-at, all-same, map-same, apart, rest}
 use Rattle.orders.specs.Chain.{ordered}
-use Rattle.ledger.specs.declared.Read.{Read}
 use Rattle.ledger.specs.declared.Write.{Write}
 use Rattle.ledger.specs.Version.{same}
-use Rattle.ledger.specs.Tx.{Tx, noWrite, writeOf}
-use Rattle.ledger.specs.State.{State, Entry, Level, keys, entry, store}
+use Rattle.ledger.specs.Tx.{Tx, keysRead, writer, noWrite, writeOf}
+use Rattle.ledger.specs.declared.Entry.{Entry}
+use Rattle.ledger.specs.declared.Stamp.{Stamp}
+use Rattle.ledger.specs.State.{State, Level, keys, versions, entry, store}
 use Rattle.ledger.specs.Gate.{beyond}
-use Rattle.ledger.specs.Commit.{names, passes, left, write, afterPage, commit, verdicts}
+use Rattle.ledger.specs.Commit.{names, passes, stamp, left, write, afterPage, commit, verdicts}
 use Rattle.ledger.proofs.Commits.{kept-level, store-kept, write-kept}
 use Rattle.ledger.proofs.Faults.{or-none}
 use Rattle.ledger.proofs.Rising.{Rising}
-use Rattle.planner.specs.Plan.{reader, before}
-use Rattle.claims.specs.Serial.{seen, Rules, run, made, writer}
+use Rattle.planning.specs.Plan.{before}
+use Rattle.claims.specs.Serial.{seen, Rules, run, made}
+use Rattle.planning.proofs.Words.{reads-key, read-in, no-write, before-words}
 
 -- ---- what stands at a key after a write
 
@@ -42,7 +42,7 @@ entry-same s k e z h = λ i. record {
   value = getD-set-same (s .values) k (e .value) (pos 0) (omega (arith, z .values)) i;
 }
 
-pub entry-other : (s : State) (j k : ℕ) (e : Entry) → (k ≡ j → ⊥) → entry (store s j e) k ≡ entry s k
+entry-other : (s : State) (j k : ℕ) (e : Entry) → (k ≡ j → ⊥) → entry (store s j e) k ≡ entry s k
 unfolding entry store
 entry-other s j k e h = λ i. record {
   version = record {
@@ -52,19 +52,14 @@ entry-other s j k e h = λ i. record {
   value = getD-set-other (s .values) j k (e .value) (pos 0) h i;
 }
 
-not-or : (a b : Bool) → T (not (a || b)) → T (not a) × T (not b)
-not-or false b t = (tt, t)
-
--- these writes write key k
-abbrev touched : List Write → ℕ → Bool
-touched ws k = any (λ w. eqb (w .key) k) ws
-
-write-other : (n i : ℕ) (s : State) (ws : List Write) (k : ℕ) → T (not (touched ws k)) → entry (write n i s ws) k ≡ entry s k
+write-other :
+    (st : Stamp) (s : State) (ws : List Write) (k : ℕ) → ((w : Write) → w ∈ ws → w .key ≡ k → ⊥) →
+    entry (write st s ws) k ≡ entry s k
 unfolding write
-write-other n i s [] k t = refl
-write-other n i s (w ∷ ws) k t =
-    let u = not-or (eqb (w .key) k) (touched ws k) t in
-    write-other n i (store s (w .key) (left n i w)) ws k (u .1) ∙ entry-other s (w .key) k (left n i w) (λ e. differ (w .key) k (u .0) (sym e))
+write-other st s [] k f = refl
+write-other st s (w ∷ ws) k f =
+    write-other st (store s (w .key) (left st w)) ws k (λ v m. f v (List·Memᴰ·tail m))
+    ∙ entry-other s (w .key) k (left st w) (λ e. f w (List·Memᴰ·head refl) (sym e))
 
 -- the keys of these writes rise
 abbrev Rise : List Write → Type 0
@@ -73,24 +68,22 @@ Rise ws = Rising (λ i. writeOf ws i .key) (length ws)
 rise-rest : (v : Write) (ws : List Write) → Rise (v ∷ ws) → Rise ws
 rise-rest v ws r = record { rises = λ i j l h. r .rises (suc i) (suc j) (omega arith) (omega arith); small = λ i h. r .small (suc i) (omega arith) }
 
-none-later : (v : Write) (ws : List Write) → Rise (v ∷ ws) → T (not (touched ws (v .key)))
-none-later v ws r =
-    rw (
-      any-search (λ w. eqb (w .key) (v .key)) noWrite ws,
-      none-at (λ i. eqb (writeOf ws i .key) (v .key)) (length ws) (λ i h. ne-eqb (writeOf ws i .key) (v .key) (λ e. absurd (omega (arith, e, r .rises 0 (suc i) (omega arith) (omega arith))))),
-    )
-    tt
+none-later : (v : Write) (ws : List Write) → Rise (v ∷ ws) → (w : Write) → w ∈ ws → w .key ≡ v .key → ⊥
+none-later v ws r w m e =
+    let at = in-at ws noWrite m in
+    let up = r .rises 0 (suc (at .0)) (omega arith) (omega (arith, at .1)) in
+    omega (arith, ap (λ (x : Write). x .key) (at .2))
 
 write-last :
-    (n i : ℕ) (s : State) (ws : List Write) (w : Write) → Level (s .blocks) (s .places) (s .values) → w ∈ ws → Rise ws → w .key < keys s →
-    entry (write n i s ws) (w .key) ≡ left n i w
+    (st : Stamp) (s : State) (ws : List Write) (w : Write) → Level (s .blocks) (s .places) (s .values) → w ∈ ws → Rise ws → w .key < keys s →
+    entry (write st s ws) (w .key) ≡ left st w
 unfolding write
-write-last n i s (v ∷ ws) w z (List·Memᴰ·head e) r h =
-    rw e (write-other n i (store s (v .key) (left n i v)) ws (v .key) (none-later v ws r) ∙ entry-same s (v .key) (left n i v) z (rw e at h))
-write-last n i s (v ∷ ws) w z (List·Memᴰ·tail m) r h =
-    let t = store s (v .key) (left n i v) in
-    let k = store-kept s (v .key) (left n i v) in
-    write-last n i t ws w (kept-level s t k z) m (rise-rest v ws r) (rw (k .blocks) h)
+write-last st s (v ∷ ws) w z (List·Memᴰ·head e) r h =
+    rw e (write-other st (store s (v .key) (left st v)) ws (v .key) (none-later v ws r) ∙ entry-same s (v .key) (left st v) z (rw e at h))
+write-last st s (v ∷ ws) w z (List·Memᴰ·tail m) r h =
+    let t = store s (v .key) (left st v) in
+    let k = store-kept s (v .key) (left st v) in
+    write-last st t ws w (kept-level s t k z) m (rise-rest v ws r) (rw (k .blocks) h)
 
 -- a key of a transaction that has none beyond k
 pub key-below : (k : ℕ) (x : Tx) → beyond k x ≡ false → {w : Write} → w ∈ x .writes → w .key < k
@@ -105,87 +98,82 @@ key-below k x e {w} m =
 
 -- one entry at each key that x reads
 abbrev pub Agree : State → State → Tx → Type 0
-Agree s t x = (r : Read) → r ∈ x .reads → entry s (r .key) ≡ entry t (r .key)
-
-module _ {A B : Type 0} where
-  map-same : (f g : A → B) (xs : List A) → ((x : A) → x ∈ xs → f x ≡ g x) → map f xs ≡ map g xs
-  map-same f g [] h = refl
-  map-same f g (x ∷ xs) h = ap₂ (λ y l. y ∷ l) (h x (List·Memᴰ·head refl)) (map-same f g xs (λ y m. h y (List·Memᴰ·tail m)))
+Agree s t x = (k : ℕ) → k ∈ keysRead x → entry s k ≡ entry t k
 
 agree-self : (s : State) (x : Tx) → Agree s s x
-agree-self s x r m = refl
+agree-self s x k m = refl
 
 agree-seen : (s t : State) (x : Tx) → Agree s t x → seen s x ≡ seen t x
 unfolding seen
-agree-seen s t x h = map-same (λ r. entry s (r .key)) (λ r. entry t (r .key)) (x .reads) h
+agree-seen s t x h = map-same (entry s) (entry t) (keysRead x) h
 
-agree-passes : (s t : State) (x : Tx) → Agree s t x → passes s x ≡ passes t x
-unfolding passes
-agree-passes s t x h = all-same (names s) (names t) (x .reads) (λ r m. ap (λ e. same (r .version) (e .version)) (h r m))
+agree-passes : (s t : State) (x : Tx) → Agree s t x → passes (versions s) x ≡ passes (versions t) x
+unfolding passes entry
+agree-passes s t x h =
+    all-same (names (versions s)) (names (versions t)) (x .reads) (λ r m. ap (λ e. same (r .version) (e .version)) (h (r .key) (read-in x m)))
 
 -- ---- those that are still to run
 
--- the writes on the pages, whatever was read
-abbrev onPages : (ℕ → Tx) → Rules
+-- the rules that make the writes on the pages, whatever was read
+abbrev pub onPages : (ℕ → Tx) → Rules
 onPages b i es = b i .writes
 
 module _ (b : ℕ → Tx) where
   -- in a forward order a later one reads nothing that an earlier one writes
-  unread : (i : ℕ) (os : List ℕ) → T (ordered (before b) (i ∷ os)) → T (distinct (i ∷ os)) → (u : ℕ) → u ∈ os → (r : Read) → r ∈ b u .reads → T (not (touched (b i .writes) (r .key)))
-  unfolding ordered before reader
-  unread i os f d u m r q =
-      not-T (touched (b i .writes) (r .key))
-      (λ h.
-      let w = any-out (λ v. eqb (v .key) (r .key)) (b i .writes) h in
-      T-not (before b u i)
+  unread :
+      (i : ℕ) (os : List ℕ) → T (ordered (before b) (i ∷ os)) → T (distinct (i ∷ os)) →
+      (u : ℕ) → u ∈ os → (k : ℕ) → k ∈ keysRead (b u) → T (not (writer (b i) k))
+  unfolding ordered
+  unread i os f d u m k q =
+      not-T (writer (b i) k)
+      (λ w. T-not (before b u i)
       (all-out (λ a. not (before b a i)) os (and-left (all (λ a. not (before b a i)) os) _ f) m)
-      (both (not (eqb u i)) _
-      (eqb-sym i u (apart i os d m))
-      (any-in (λ v. reader (b u) (v .key)) (b i .writes) (w .1)
-      (any-in (λ x. eqb (x .key) (w .0 .key)) (b u .reads) q (rw (eqb→eq (w .0 .key) (r .key) (w .2)) (eqb-refl (r .key)))))))
+      (before-words b u i .1 (λ e. differ i u (apart i os d m) (sym e), (k, w, reads-key (b u) k .1 q))))
 
   -- what holds of os, still to run, at the state s: each of them sees what it saw at the start
   pub record Waiting (start : State) (rule : Rules) (s : State) (os : List ℕ) : Type 0 where
     pub forward : T (ordered (before b) os)
     pub once : T (distinct os)
     pub fixed : (i : ℕ) → i ∈ os → rule i (seen start (b i)) ≡ b i .writes
-    pub current : (i : ℕ) → i ∈ os → T (passes start (b i))
+    pub current : (i : ℕ) → i ∈ os → T (passes (versions start) (b i))
     pub agree : (i : ℕ) → i ∈ os → Agree s start (b i)
 
   pub waiting :
       (s : State) (rule : Rules) (os : List ℕ) → T (ordered (before b) os) → T (distinct os) →
-      ((i : ℕ) → i ∈ os → rule i (seen s (b i)) ≡ b i .writes) → ((i : ℕ) → i ∈ os → T (passes s (b i))) → Waiting s rule s os
+      ((i : ℕ) → i ∈ os → rule i (seen s (b i)) ≡ b i .writes) → ((i : ℕ) → i ∈ os → T (passes (versions s) (b i))) → Waiting s rule s os
   waiting s rule os f d g h = record { forward = f; once = d; fixed = g; current = h; agree = λ i m. agree-self s (b i) }
 
   module _ (n : ℕ) (start : State) (rule : Rules) where
-    next : (p : ℕ) (s : State) (i : ℕ) (os : List ℕ) → Waiting start rule s (i ∷ os) → Waiting start rule (write n p s (b i .writes)) os
+    next : (p : ℕ) (s : State) (i : ℕ) (os : List ℕ) → Waiting start rule s (i ∷ os) → Waiting start rule (write (stamp n p) s (b i .writes)) os
     unfolding ordered
     next p s i os z = record {
       forward = and-right (all (λ a. not (before b a i)) os) _ (z .forward);
       once = rest i os (z .once);
       fixed = λ u m. z .fixed u (List·Memᴰ·tail m);
       current = λ u m. z .current u (List·Memᴰ·tail m);
-      agree = λ u m r q. write-other n p s (b i .writes) (r .key) (unread i os (z .forward) (z .once) u m r q) ∙ z .agree u (List·Memᴰ·tail m) r q;
+      agree = λ u m k q.
+          write-other (stamp n p) s (b i .writes) k (no-write (b i) k (unread i os (z .forward) (z .once) u m k q))
+          ∙ z .agree u (List·Memᴰ·tail m) k q;
     }
 
     makes : (s : State) (i : ℕ) (os : List ℕ) → Waiting start rule s (i ∷ os) → rule i (seen s (b i)) ≡ b i .writes
     makes s i os z = ap (rule i) (agree-seen s start (b i) (z .agree i (List·Memᴰ·head refl))) ∙ z .fixed i (List·Memᴰ·head refl)
 
-    now-passes : (s : State) (i : ℕ) (os : List ℕ) → Waiting start rule s (i ∷ os) → passes s (b i) ≡ true
+    now-passes : (s : State) (i : ℕ) (os : List ℕ) → Waiting start rule s (i ∷ os) → passes (versions s) (b i) ≡ true
     now-passes s i os z = agree-passes s start (b i) (z .agree i (List·Memᴰ·head refl)) ∙ is-true _ (z .current i (List·Memᴰ·head refl))
 
     -- "Each rule then makes the writes on its page"
     pub made-pages : (p : ℕ) (s : State) (os : List ℕ) → Waiting start rule s os → made b n p rule s os ≡ map (λ i. b i .writes) os
     unfolding made
     made-pages p s [] z = refl
-    made-pages p s (i ∷ os) z = rw (makes s i os z) (ap (λ l. b i .writes ∷ l) (made-pages (suc p) (write n p s (b i .writes)) os (next p s i os z)))
+    made-pages p s (i ∷ os) z = rw (makes s i os z) (ap (λ l. b i .writes ∷ l) (made-pages (suc p) (write (stamp n p) s (b i .writes)) os (next p s i os z)))
 
     run-pages : (p : ℕ) (s : State) (os : List ℕ) → Waiting start rule s os → run b n p rule s os ≡ run b n p (onPages b) s os
     unfolding run
     run-pages p s [] z = refl
-    run-pages p s (i ∷ os) z = rw (makes s i os z) (run-pages (suc p) (write n p s (b i .writes)) os (next p s i os z))
+    run-pages p s (i ∷ os) z = rw (makes s i os z) (run-pages (suc p) (write (stamp n p) s (b i .writes)) os (next p s i os z))
 
-    after-writes : (p : ℕ) (s : State) (i : ℕ) (os : List ℕ) → Waiting start rule s (i ∷ os) → afterPage n p s (b i) ≡ write n p s (b i .writes)
+    after-writes : (p : ℕ) (s : State) (i : ℕ) (os : List ℕ) → Waiting start rule s (i ∷ os) → afterPage n p s (b i) ≡ write (stamp n p) s (b i .writes)
     unfolding afterPage
     after-writes p s i os z = rw (now-passes s i os z)
 
@@ -193,7 +181,7 @@ module _ (b : ℕ → Tx) where
     unfolding commit run
     commit-pages p s [] z = refl
     commit-pages p s (i ∷ os) z =
-        ap (λ x. commit n (suc p) x (map b os)) (after-writes p s i os z) ∙ commit-pages (suc p) (write n p s (b i .writes)) os (next p s i os z)
+        ap (λ x. commit n (suc p) x (map b os)) (after-writes p s i os z) ∙ commit-pages (suc p) (write (stamp n p) s (b i .writes)) os (next p s i os z)
 
     -- "the state and its versions are those of our commit"
     pub commit-runs : (p : ℕ) (s : State) (os : List ℕ) → Waiting start rule s os → commit n p s (map b os) ≡ run b n p rule s os
@@ -205,27 +193,30 @@ module _ (b : ℕ → Tx) where
     fails-none p s [] z = refl
     fails-none p s (i ∷ os) z =
         ap₂ (λ (t : Bool) (x : State). pick t 0 3 ∷ verdicts n (suc p) x (map b os)) (now-passes s i os z) (after-writes p s i os z)
-        ∙ ap (λ l. 0 ∷ l) (fails-none (suc p) (write n p s (b i .writes)) os (next p s i os z))
+        ∙ ap (λ l. 0 ∷ l) (fails-none (suc p) (write (stamp n p) s (b i .writes)) os (next p s i os z))
 
   -- ---- where a key ends
 
-  run-other : (n p : ℕ) (s : State) (os : List ℕ) (k : ℕ) → ((u : ℕ) → u ∈ os → T (not (writer (b u) k))) → entry (run b n p (onPages b) s os) k ≡ entry s k
-  unfolding run writer
+  pub run-other :
+      (n p : ℕ) (s : State) (os : List ℕ) (k : ℕ) → ((u : ℕ) → u ∈ os → T (not (writer (b u) k))) →
+      entry (run b n p (onPages b) s os) k ≡ entry s k
+  unfolding run
   run-other n p s [] k f = refl
   run-other n p s (i ∷ os) k f =
-      run-other n (suc p) (write n p s (b i .writes)) os k (λ u m. f u (List·Memᴰ·tail m)) ∙ write-other n p s (b i .writes) k (f i (List·Memᴰ·head refl))
+      run-other n (suc p) (write (stamp n p) s (b i .writes)) os k (λ u m. f u (List·Memᴰ·tail m))
+      ∙ write-other (stamp n p) s (b i .writes) k (no-write (b i) k (f i (List·Memᴰ·head refl)))
 
   run-last :
       (n p : ℕ) (s : State) (xs : List ℕ) (i : ℕ) (ys : List ℕ) (w : Write) →
       Level (s .blocks) (s .places) (s .values) → w ∈ b i .writes → Rise (b i .writes) → w .key < keys s →
       ((u : ℕ) → u ∈ ys → T (not (writer (b u) (w .key)))) →
-      entry (run b n p (onPages b) s (xs ++ i ∷ ys)) (w .key) ≡ left n (p + length xs) w
+      entry (run b n p (onPages b) s (xs ++ i ∷ ys)) (w .key) ≡ left (stamp n (p + length xs)) w
   unfolding run
   run-last n p s [] i ys w z m r h f =
-      rw (add-zero p) (run-other n (suc p) (write n p s (b i .writes)) ys (w .key) f ∙ write-last n p s (b i .writes) w z m r h)
+      rw (add-zero p) (run-other n (suc p) (write (stamp n p) s (b i .writes)) ys (w .key) f ∙ write-last (stamp n p) s (b i .writes) w z m r h)
   run-last n p s (x ∷ xs) i ys w z m r h f =
-      let t = write n p s (b x .writes) in
-      let k = write-kept n p s (b x .writes) in
+      let t = write (stamp n p) s (b x .writes) in
+      let k = write-kept (stamp n p) s (b x .writes) in
       rw (add-suc p (length xs), ← suc-add p (length xs)) (run-last n (suc p) t xs i ys w (kept-level s t k z) m r (rw (k .blocks) h) f)
 
   module _ (n : ℕ) (s : State) (rule : Rules) (os : List ℕ) (z : Waiting s rule s os) where
@@ -234,8 +225,8 @@ module _ (b : ℕ → Tx) where
         (xs : List ℕ) (i : ℕ) (ys : List ℕ) (w : Write) → os ≡ xs ++ i ∷ ys →
         Level (s .blocks) (s .places) (s .values) → w ∈ b i .writes → Rise (b i .writes) → w .key < keys s →
         ((u : ℕ) → u ∈ ys → T (not (writer (b u) (w .key)))) →
-        entry (run b n 0 rule s os) (w .key) ≡ left n (length xs) w
-    ends-last xs i ys w e l m r h f = rw (run-pages n s rule 0 s os z, e) (run-last n 0 s xs i ys w l m r h f ∙ ap (λ p. left n p w) (omega arith))
+        entry (run b n 0 rule s os) (w .key) ≡ left (stamp n (length xs)) w
+    ends-last xs i ys w e l m r h f = rw (run-pages n s rule 0 s os z, e) (run-last n 0 s xs i ys w l m r h f ∙ ap (λ p. left (stamp n p) w) (omega arith))
 
     -- and one that no one writes as it began
     pub ends-unwritten : (k : ℕ) → ((u : ℕ) → u ∈ os → T (not (writer (b u) k))) → entry (run b n 0 rule s os) k ≡ entry s k

@@ -5,37 +5,38 @@ use mathlib.Core.Bool.{true, false}
 use mathlib.Core.List.{List}
 use mathlib.Core.Path.{_≡_, refl, sym, ap, _∙_}
 use lib.ListN.{length, take, replicate, length-append, length-replicate}
-use lib.Dec.{ltb}
+use lib.Seq.{length-take-le}
 use borrow.Author.Tests.{lt-ltb, le-leb, eq-eqb}
-use Rattle.refusals.specs.Outcome.{Outcome, gives, refuses}
-use Rattle.refusals.specs.Fault.{Fault, clear, fault}
-use Rattle.ledger.specs.State.{State, Level, keys, wrongLengths}
-use Rattle.ledger.specs.Gate.{pages, txAt, txs, gateFault}
-use Rattle.ledger.specs.Commit.{Commits, commits, commitBatch}
+use Rattle.refusals.specs.Outcome.{gives, refuses}
+use Rattle.refusals.specs.Fault.{Fault, clear, fault, after}
+use Rattle.refusals.specs.Fault.{first as rowsFirst}
+use Rattle.ledger.specs.State.{State, Level, keys, versions, wrongLengths}
+use Rattle.ledger.specs.Gate.{pages, txAt, txs}
+use Rattle.ledger.specs.Commit.{commit, Commits, commitRows, commitBatch}
 use Rattle.lists.proofs.Tables.{length-tab}
 use Rattle.ledger.proofs.Gated.{Through, gate-open}
 use Rattle.ledger.proofs.Commits.{Kept, kept-self, commit-kept}
-use Rattle.planner.specs.Plan.{Plans, sequence, plans, short, planBatch}
-use Rattle.planner.proofs.Few.{plan-room}
+use Rattle.planning.specs.Plan.{Plans, sequence, plans, planRows, planBatch}
+use Rattle.planning.proofs.Few.{plan-room}
 use Rattle.report.specs.Listing.{listing, refusal, together, listed, refused}
 use Rattle.lister.specs.Written.{first, written, answer}
-use Rattle.claims.specs.Serial.{Rules, run}
+use Rattle.claims.specs.Serial.{run}
 use Rattle.claims.specs.Shown.{start, plan, settled, shown}
-use Rattle.claims.proofs.Outcomes.{apart, value}
+use Rattle.refusals.proofs.Answers.{value}
+use Rattle.planning.proofs.Opened.{own, plan-open, plan-clear}
+use Rattle.claims.proofs.Running.{onPages}
 use Rattle.claims.proofs.Planning.{sequence-perm}
 use Rattle.claims.proofs.Demand3.{third}
 
 -- ---- a commit leaves lists as long as they were
 
 batch-kept : (batch : List ℕ) (s : State) (n : ℕ) (vs : List ℕ) → Kept s (commitBatch batch s n vs .state)
-unfolding commitBatch commits
-batch-kept batch s n vs = go (gateFault (ltb (length vs) (pages batch)) batch s n)
+unfolding commitBatch
+batch-kept batch s n vs = go (rowsFirst (commitRows batch s n vs))
   where
-    go : (f : Fault)
-        → let c : Commits = elim f [ clear ↦ commits batch s n vs | fault number place ↦ record { answer = refuses number place; state = s; verdicts = vs } ] in
-        Kept s (c .state)
+    go : (f : Fault) → Kept s (after f (commit n 0 s (txs batch)) s)
     go clear = commit-kept n 0 s (txs batch)
-    go (fault number place) = kept-self s
+    go (fault a b) = kept-self s
 
 -- lists of one length, 1 to 1024, stay so
 good-lengths : (s t : State) → Kept s t → Level (s .blocks) (s .places) (s .values) → 0 < keys s → keys s ≤ 1024 → wrongLengths t ≡ false
@@ -47,32 +48,23 @@ good-lengths s t k l h j =
       le-leb (length (t .blocks)) 1024 (omega (arith, k .blocks)),
     )
 
--- the rule that makes the writes on its page, whatever it reads
-abbrev pub own : List ℕ → Rules
-own input i es = txAt input i .writes
-
 -- ---- what is lent goes together, whatever the input, the state and the lent lists are
 
 module _ (text input : List ℕ) (s : State) (vs os out ps : List ℕ) (room : 65536 ≤ length text) where
   abbrev p : Plans
   p = planBatch input s first vs os out
 
-  abbrev after : ℕ → State
-  after k = commitBatch (take (512 * k) (p .out)) s first ps .state
+  abbrev then : ℕ → State
+  then k = commitBatch (take (512 * k) (p .out)) s first ps .state
 
   abbrev made : Plans
-  made = plans input s (sequence s (txAt input) (pages input)) vs os out
+  made = plans input (versions s) (sequence (versions s) (txAt input) (pages input)) vs os out
 
   -- a plan that is no refusal came through the gate
-  opened : (k : ℕ) → p .answer ≡ gives k → Through (short input vs os out) input s first × (p ≡ made)
-  unfolding planBatch
-  opened k e = go (gateFault (short input vs os out) input s first) refl e
-    where
-      go : (f : Fault) → gateFault (short input vs os out) input s first ≡ f
-          → let q : Plans = elim f [ clear ↦ made | fault number place ↦ record { answer = refuses number place; verdicts = vs; order = os; out = out } ] in
-          q .answer ≡ gives k → Through (short input vs os out) input s first × (q ≡ made)
-      go clear g h = (gate-open (short input vs os out) input s first g, refl)
-      go (fault number place) g h = absurd (apart h refl)
+  opened : (k : ℕ) → p .answer ≡ gives k → Through input s first × (p ≡ made)
+  opened k e =
+      let c = plan-clear input s first vs os out e .0 in
+      (gate-open (own input s first vs os out) input s first c, sym (plan-open input s first vs os out c))
 
   long-verdicts : pages input ≤ length (made .verdicts)
   unfolding plans
@@ -83,23 +75,23 @@ module _ (text input : List ℕ) (s : State) (vs os out ps : List ℕ) (room : 6
   long-order k e = simp length-append (omega (arith, value e refl))
 
   -- so what `listed` asks is always so
-  fits : (k : ℕ) → p .answer ≡ gives k → together text input (p .verdicts) (p .order) k (after k) ≡ true
+  fits : (k : ℕ) → p .answer ≡ gives k → together text input (p .verdicts) (p .order) k (then k) ≡ true
   fits k e =
       let o = opened k e in
       let t = o .0 in
       let v : pages input ≤ length (p .verdicts) = rw (o .1) long-verdicts in
       let d : k ≤ length (p .order) = rw (o .1) (long-order k (rw (o .1) at e)) in
-      let few = plan-room input s first vs os out k (p .verdicts) (p .order) (p .out) (ap (λ (a : Outcome ℕ). record { answer = a; verdicts = p .verdicts; order = p .order; out = p .out }) (sym e)) in
+      let few = plan-room input s first vs os out k e in
       rw (
         le-leb 65536 (length text) room,
         le-leb (length input) 32768 (omega (arith, t .ready .whole, t .ready .few)),
         le-leb (pages input) (length (p .verdicts)) v,
         le-leb k (length (p .order)) d,
         le-leb k 64 (few .0),
-        good-lengths s (after k) (batch-kept (take (512 * k) (p .out)) s first ps) (t .level) (t .some) (t .few),
+        good-lengths s (then k) (batch-kept (take (512 * k) (p .out)) s first ps) (t .level) (t .some) (t .few),
       )
 
-  whole : (k : ℕ) → p .answer ≡ gives k → answer text input s vs os out ps ≡ listing first input (p .verdicts) (p .order) k (after k)
+  whole : (k : ℕ) → p .answer ≡ gives k → answer text input s vs os out ps ≡ listing first input (p .verdicts) (p .order) k (then k)
   unfolding written listed
   whole k e = rw (e, written, fits k e)
 
@@ -109,15 +101,20 @@ module _ (text input : List ℕ) (s : State) (vs os out ps : List ℕ) (room : 6
 
   -- where the gate lets the input through, the state that is listed is that of the kept pages' own writes, in the order of the schedule
   whole-run :
-      (k : ℕ) → gateFault (short input vs os out) input s first ≡ clear → made .answer ≡ gives k → k ≤ length ps →
-      answer text input s vs os out ps ≡ listing first input (made .verdicts) (made .order) k (run (txAt input) first 0 (own input) s (take k (made .order)))
-  unfolding planBatch
+      (k : ℕ) → rowsFirst (planRows input s first vs os out) ≡ clear → made .answer ≡ gives k → k ≤ length ps →
+      answer text input s vs os out ps
+      ≡ listing first input (made .verdicts) (made .order) k
+      (run (txAt input) first 0 (onPages (txAt input)) s (take k (made .order)))
   whole-run k c a l =
-      let e : p ≡ made = rw (c, planBatch) in
-      let t = third input s first (sequence s (txAt input) (pages input)) vs os out k (sequence-perm s (txAt input) (pages input)) c a in
+      let e = sym (plan-open input s first vs os out c) in
+      let t = third input s first (sequence (versions s) (txAt input) (pages input)) vs os out k (sequence-perm (versions s) (txAt input) (pages input)) c a in
+      let h : length (take k (made .order)) ≡ k = length-take-le k (made .order) (long-order k a) in
       whole k (ap (λ (q : Plans). q .answer) e ∙ a)
       ∙ ap (λ (q : Plans). listing first input (q .verdicts) (q .order) k (commitBatch (take (512 * k) (q .out)) s first ps .state)) e
-      ∙ ap (λ (q : Commits). listing first input (made .verdicts) (made .order) k (q .state)) (t .commits (own input) (λ i m. refl) ps l)
+      ∙ ap (λ (o : List ℕ). listing first input (made .verdicts) (made .order) k (commitBatch o s first ps .state))
+      (t .out-pages)
+      ∙ ap (λ (q : Commits). listing first input (made .verdicts) (made .order) k (q .state))
+      (t .third .commits (onPages (txAt input)) (λ i m. refl) ps (omega arith))
 
 -- ---- the program
 
@@ -138,12 +135,14 @@ shown-all input = (
 
 -- where the gate lets the input through: what plan leaves, and the state after the writes of the kept pages
 abbrev pub clearPlan : List ℕ → Plans
-clearPlan input = plans input start (sequence start (txAt input) (pages input)) (replicate 64 0) (replicate 64 0) (replicate 32768 0)
+clearPlan input = plans input (versions start) (sequence (versions start) (txAt input) (pages input)) (replicate 64 0) (replicate 64 0) (replicate 32768 0)
 
 pub shown-run :
-    (input : List ℕ) (k : ℕ) → gateFault (short input (replicate 64 0) (replicate 64 0) (replicate 32768 0)) input start first ≡ clear →
+    (input : List ℕ) (k : ℕ) → rowsFirst (planRows input start first (replicate 64 0) (replicate 64 0) (replicate 32768 0)) ≡ clear →
     clearPlan input .answer ≡ gives k → k ≤ 64 →
-    shown input ≡ listing first input (clearPlan input .verdicts) (clearPlan input .order) k (run (txAt input) first 0 (own input) start (take k (clearPlan input .order)))
+    shown input
+    ≡ listing first input (clearPlan input .verdicts) (clearPlan input .order) k
+    (run (txAt input) first 0 (onPages (txAt input)) start (take k (clearPlan input .order)))
 unfolding shown
 shown-run input k c a h =
     whole-run (replicate 65536 0) input start (replicate 64 0) (replicate 64 0) (replicate 32768 0) (replicate 64 0) (long 65536 0) k c a

@@ -10,25 +10,27 @@ use Rattle.tonnage.specs.Text.{follow, size, laid, form, figure}
 use Rattle.tonnage.specs.Services.{readRows, readText}
 use Rattle.lists.specs.Tables.{flat, tab}
 use Rattle.octets.specs.Bytes.{field, weighed, le}
-use Rattle.ledger.specs.Tx.{valueTx, padded, floorOf}
+use Rattle.ledger.specs.Tx.{keysRead, keysWritten, valueTx, padded, floorOf}
+use Rattle.ledger.specs.Tx.{reader as readerOf}
 use Rattle.ledger.specs.Page.{countRows, entryRows, headRows, wholeRows, pageRows, pageTx, bodyOf, pageOf}
-use Rattle.ledger.specs.Services.{readPage, writeRows, writePage}
+use Rattle.ledger.specs.Services.{checkPage, readPage, writeRows, writePage}
 use Rattle.ledger.specs.State.{entry, store, stateRows}
-use Rattle.ledger.specs.Gate.{pagesRows, gateRows, txs}
-use Rattle.ledger.specs.Commit.{passes, write, afterPage, commit as commitAll, verdicts, passed, commits, commitBatch}
+use Rattle.ledger.specs.Gate.{frontRows, pagesRows, gateRows, txs}
+use Rattle.ledger.specs.Commit.{passes, write, afterPage, commit as commitAll, verdicts, passed, commitBatch}
 use Rattle.orders.specs.Chain.{joined, cyclic}
 use Rattle.orders.specs.Admission.{admit}
 use Rattle.orders.specs.Arrange.{lowest as lowestTicket, without, arrange, byTicket, free, schedule}
 use Rattle.lists.specs.Members.{upto}
-use Rattle.planner.specs.Plan.{reader as readerOf, before, sequence, kept, verdict, order, gathered, plans, planBatch}
+use Rattle.planning.specs.Plan.{before, sequence, kept, verdict, order, gathered, plans, planBatch}
 use Rattle.lists.specs.Ascii.{ascii}
-use Rattle.claims.specs.Cases.{text, plan, commit, written, Holds, Hold, table, number, batchOf, counted, clash, reader, failing}
+use Rattle.claims.specs.Cases.{text, page, plan, commit, written, Holds, Hold, table, number, batchOf}
+use Rattle.claims.specs.Cases.{counted, ticket7, bytes7, clash, reader, failing}
 
 -- every case that document 01 marks P holds of the definitions that the promises cite
 pub cases : Hold table
-unfolding first rowsFrom moved ascii readText readRows form laid firstIn seek size follow figure writePage writeRows countRows entryRows valueTx floorOf pageOf bodyOf weighed le flat tab readPage pageRows wholeRows headRows pageTx field padded
-    batchOf gateRows stateRows pagesRows txs entry store passes write afterPage commitAll verdicts passed commits commitBatch
-    joined cyclic admit lowestTicket without arrange byTicket free schedule upto readerOf before sequence kept verdict order gathered plans planBatch
+unfolding first rowsFrom moved ascii readText readRows form laid firstIn seek size follow figure writePage writeRows countRows entryRows valueTx floorOf pageOf bodyOf weighed le flat tab readPage checkPage pageRows wholeRows headRows pageTx field padded
+    batchOf gateRows frontRows stateRows pagesRows txs entry store passes write afterPage commitAll verdicts passed commitBatch
+    joined cyclic admit lowestTicket without arrange byTicket free schedule upto keysRead keysWritten readerOf before sequence kept verdict order gathered plans planBatch
 cases = (
   refl,
   (
@@ -59,7 +61,10 @@ text-plain = cases .0
 pub text-no-comma : Holds (text "684" (refuses 18 0))
 text-no-comma = cases .1 .1 .0
 
-pub room-25 : Holds (written (counted 25 25) (gives tt))
+pub page-ticket7 : Holds (page ticket7 bytes7)
+page-ticket7 = cases .1 .1 .1 .1 .0
+
+pub room-25 : Holds (written (counted 25 25) (gives 0))
 room-25 = cases .1 .1 .1 .1 .1 .0
 
 pub plan-clash : Holds (plan clash 1 (2 ∷ 0 ∷ []) (1 ∷ 9 ∷ []))

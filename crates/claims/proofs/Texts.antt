@@ -1,5 +1,5 @@
 -- Demands 1 and 2 for tonnage texts: which number is given when, and the round trips. Assumes nothing.
-use Prim.Native.Nat.{ℕ, _<_}
+use Prim.Native.Nat.{ℕ, _≤_, _<_}
 use native.Mathlib.Omega.{arith}
 use mathlib.Core.Bool.{Bool, true, false, true≢false}
 use mathlib.Core.List.{List, _++_}
@@ -17,10 +17,10 @@ use Rattle.lists.specs.Search.{seek, firstIn}
 use Rattle.tonnage.specs.Text.{follow, size, laid, form, figure, textOf}
 use Rattle.tonnage.specs.Grammar.{Tonnage}
 use Rattle.tonnage.specs.Services.{in64, readRows, readText, Written, writeRows, writeText}
-use Rattle.tonnage.proofs.RoundTrip.{accepted-written, written-accepted}
+use Rattle.tonnage.proofs.RoundTrip.{accepted-written, written-accepted, written}
 use Rattle.tonnage.proofs.Sentence.{grammar-form}
 use Rattle.lists.specs.Ascii.{ascii}
-use Rattle.claims.proofs.Outcomes.{apart, value, number, place}
+use Rattle.refusals.proofs.Answers.{apart, value, number, place}
 use Rattle.claims.proofs.Table.{text-no-comma}
 
 -- ---- reading: demand 1, "A refusal carries the number that document 01 gives it, exactly when 01 says"
@@ -76,9 +76,14 @@ given-19 = refl
 
 -- ---- reading and writing: demand 2, "tonnage texts read back as written, and one that is accepted is exactly what our writer would write"
 
--- a text that is accepted as z is what the writer leaves in any buffer that it fits, as it is, at the front
-pub accepted : (text : List ℕ) (z : ℤ) → readText text ≡ gives z → textOf z ≡ text
-accepted = accepted-written
+-- a text that is accepted as z is what the writer leaves of z in any buffer that it fits, as it is, at the front
+pub accepted :
+    (text : List ℕ) (z : ℤ) → readText text ≡ gives z → (buffer : List ℕ) → length text ≤ length buffer →
+    writeText buffer z ≡ record { answer = gives (length text); text = text ++ drop (length text) buffer }
+accepted text z h buffer l =
+    let e = accepted-written text z h in
+    written z buffer (rw e l)
+    ∙ ap (λ (t : List ℕ). record { answer = gives (length t); text = t ++ drop (length t) buffer }) e
 
 module _ (buffer : List ℕ) (z : ℤ) where
   abbrev fit : Written

@@ -6,72 +6,62 @@ use mathlib.Core.Bool.{Bool}
 use mathlib.Core.List.{List, [], _∷_, _++_, append-nil}
 use mathlib.Core.Path.{_≡_, refl, sym, ap, _∙_}
 use lib.ListN.{length, getD, take}
-use lib.Dec.{T, ltb, ltb→lt}
+use lib.Dec.{T, not-T, ltb, ltb→lt}
 use Rattle.refusals.specs.Outcome.{gives}
 use Rattle.refusals.specs.Fault.{clear, rowsFrom}
 use Rattle.refusals.specs.Fault.{first as firstOf}
 use Rattle.lists.specs.Search.{seek, firstIn}
-use Rattle.lists.specs.Members.{all, upto}
+use Rattle.lists.specs.Members.{_∈_, all, upto}
 use Rattle.lists.specs.Ascii.{ascii}
-use Rattle.lists.proofs.Tests.{and-left, and-right}
+use Rattle.lists.proofs.Membership.{all-out}
 use Rattle.tonnage.specs.Text.{digits, widthIn, width, textOf}
-use Rattle.ledger.specs.declared.Write.{Write}
 use Rattle.lists.specs.Tables.{flat, tab}
 use Rattle.octets.specs.Bytes.{field, weighed, le}
-use Rattle.ledger.specs.Tx.{Tx, floorOf}
+use Rattle.ledger.specs.Tx.{Tx, keysRead, keysWritten, reader, writer, floorOf}
 use Rattle.ledger.specs.Page.{countRows, entryRows, pageTx, bodyOf, pageOf}
 use Rattle.ledger.specs.State.{State, gone, keys, entry, store}
 use Rattle.ledger.specs.Gate.{pages, txAt}
-use Rattle.ledger.specs.Commit.{left, passes, write}
+use Rattle.ledger.specs.Commit.{passes, stamp, write}
 use Rattle.ledger.proofs.Commits.{Kept, kept-self, kept-more, write-kept}
 use Rattle.orders.specs.Chain.{joined, cyclic}
 use Rattle.orders.specs.Admission.{admit}
 use Rattle.orders.specs.Arrange.{lowest as lowestTicket, without, arrange, byTicket, free, schedule}
-use Rattle.planner.specs.Plan.{reader, before, sequence, kept, verdict, order, plans}
+use Rattle.planning.specs.Plan.{before, sequence, kept, verdict, order, plans}
 use Rattle.report.specs.Listing.{header, placed, pageLine, stateLine, keyLine, listing}
 use Rattle.lister.specs.Written.{first}
 use Rattle.claims.specs.Cases.{batchOf}
 use Rattle.claims.specs.Serial.{run}
 use Rattle.claims.specs.Shown.{start, shown, five, correction, nineLines, letterLines}
-use Rattle.claims.proofs.Running.{entry-other}
-use Rattle.claims.proofs.Shown.{own, clearPlan, shown-run}
+use Rattle.planning.proofs.Words.{writes-key}
+use Rattle.claims.proofs.Running.{onPages, run-other}
+use Rattle.claims.proofs.Shown.{clearPlan, shown-run}
 use Rattle.claims.proofs.Opened.{start-keys, start-absent, good, later, shut, open-gate}
 
 -- ---- keys above all that are written
 
--- these writes write keys below m
-abbrev low : ℕ → List Write → Bool
-low m ws = all (λ w. ltb (w .key) m) ws
-
-write-low : (n i m : ℕ) (s : State) (ws : List Write) (k : ℕ) → T (low m ws) → m ≤ k → entry (write n i s ws) k ≡ entry s k
-unfolding write
-write-low n i m s [] k t h = refl
-write-low n i m s (w ∷ ws) k t h =
-    let l = ltb→lt (w .key) m (and-left (ltb (w .key) m) (low m ws) t) in
-    write-low n i m (store s (w .key) (left n i w)) ws k (and-right (ltb (w .key) m) (low m ws) t) h
-    ∙ entry-other s (w .key) k (left n i w) (λ e. omega arith)
-
 module _ (input : List ℕ) (n : ℕ) where
   abbrev ran : ℕ → State → List ℕ → State
-  ran p s os = run (txAt input) n p (own input) s os
+  ran p s os = run (txAt input) n p (onPages (txAt input)) s os
 
   -- each of these pages writes keys below m
   abbrev allLow : ℕ → List ℕ → Bool
-  allLow m os = all (λ i. low m (txAt input i .writes)) os
+  allLow m os = all (λ i. all (λ k. ltb k m) (keysWritten (txAt input i))) os
 
   run-low : (p m : ℕ) (s : State) (os : List ℕ) (k : ℕ) → T (allLow m os) → m ≤ k → entry (ran p s os) k ≡ entry s k
-  unfolding run
-  run-low p m s [] k t h = refl
-  run-low p m s (i ∷ os) k t h =
-      let ws = txAt input i .writes in
-      run-low (suc p) m (write n p s ws) os k (and-right (low m ws) (allLow m os) t) h ∙ write-low n p m s ws k (and-left (low m ws) (allLow m os) t) h
+  run-low p m s os k t h = run-other (txAt input) n p s os k (λ u i. not-T (writer (txAt input u) k) (high u i))
+    where
+      high : (u : ℕ) → u ∈ os → T (writer (txAt input u) k) → ⊥
+      high u i w =
+          let low = all-out (λ i. all (λ k. ltb k m) (keysWritten (txAt input i))) os t i in
+          let key = all-out (λ j. ltb j m) (keysWritten (txAt input u)) low (writes-key (txAt input u) k .0 w) in
+          absurd (omega (arith, ltb→lt k m key))
 
   run-kept : (p : ℕ) (s : State) (os : List ℕ) → Kept s (ran p s os)
   unfolding run
   run-kept p s [] = kept-self s
   run-kept p s (i ∷ os) =
-      let t = write n p s (txAt input i .writes) in
-      kept-more s t (ran (suc p) t os) (write-kept n p s (txAt input i .writes)) (run-kept (suc p) t os)
+      let t = write (stamp n p) s (txAt input i .writes) in
+      kept-more s t (ran (suc p) t os) (write-kept (stamp n p) s (txAt input i .writes)) (run-kept (suc p) t os)
 
 -- where no line stands from m on
 flat-rest : (f : ℕ → List ℕ) (m r : ℕ) → ((k : ℕ) → m ≤ k → k < m + r → f k ≡ []) → flat (m + r) f ≡ flat m f
@@ -125,7 +115,7 @@ from-sheet xs k text h l s = shown-few (batchOf xs) k 10 1014 refl (open-gate xs
 
 sheets : Sheet five 3 nineLines × Sheet correction 2 letterLines
 unfolding start batchOf firstIn seek firstOf rowsFrom countRows entryRows floorOf pageOf bodyOf weighed le flat tab pageTx field entry store passes write run
-    joined cyclic admit lowestTicket without arrange byTicket free schedule upto reader before sequence kept verdict order plans
+    joined cyclic admit lowestTicket without arrange byTicket free schedule upto keysRead keysWritten reader before sequence kept verdict order plans
     header placed pageLine stateLine keyLine digits widthIn width textOf ascii
 sheets = (
   record { sound = tt; clean = refl; count = refl; below = tt; reads = refl },

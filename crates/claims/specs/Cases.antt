@@ -14,9 +14,10 @@ use Rattle.ledger.specs.declared.Write.{Write}
 use Rattle.ledger.specs.Version.{absent, at}
 use Rattle.ledger.specs.Tx.{Tx, noRead, noWrite}
 use Rattle.ledger.specs.Page.{pageOf}
-use Rattle.ledger.specs.State.{State, stateOf, Entry, entry}
+use Rattle.ledger.specs.declared.Entry.{Entry}
+use Rattle.ledger.specs.State.{State, stateOf, entry}
 use Rattle.ledger.specs.Commit.{Commits, commitBatch}
-use Rattle.planner.specs.Plan.{Plans, planBatch}
+use Rattle.planning.specs.Plan.{Plans, planBatch}
 use Rattle.ledger.specs.Services.{readPage, writePage}
 use Rattle.lists.specs.Ascii.{ascii}
 
@@ -27,7 +28,7 @@ pub data Case : Type 0 where
   -- a transaction, and the page that it is written as and read back from
   page : Transaction → List ℕ → Case
   -- a transaction, and what writing it answers
-  written : Transaction → Outcome (Unit {0}) → Case
+  written : Transaction → Outcome ℕ → Case
   -- the transactions of a batch on an empty state: the kept count, the verdicts and the order of its plan
   plan : List Tx → (count : ℕ) → (verdicts order : List ℕ) → Case
   -- and what stands at a key once the out batch is committed
@@ -57,7 +58,9 @@ commitOf xs = commitBatch (batchOf xs) fresh number (replicate 2 9)
 -- what a case says
 abbrev pub Holds : Case → Type 0
 Holds (text t o) = readText (ascii t) ≡ o
-Holds (page t b) = (writePage (replicate 512 0) 0 t ≡ record { answer = gives tt; batch = b }) × (readPage b .transaction ≡ t)
+Holds (page t b) =
+    (writePage (replicate 512 0) 0 t ≡ record { answer = gives 0; batch = b })
+    × (readPage b ≡ record { answer = gives (record { reads = t .r; writes = t .w }); transaction = t })
 Holds (plan xs k vs os) = (planOf xs .answer ≡ gives k) × (planOf xs .verdicts ≡ vs) × (planOf xs .order ≡ os)
 Holds (settled xs k e) = entry (commitBatch (planOf xs .out) fresh number (replicate 2 9) .state) k ≡ e
 Holds (commit xs c vs k e) =
@@ -131,7 +134,7 @@ table =
     text "684" (refuses 18 0) ∷
     text "-0,000" (refuses 18 0) ∷
     page ticket7 bytes7 ∷
-    written (counted 25 25) (gives tt) ∷
+    written (counted 25 25) (gives 0) ∷
     written (counted 26 25) (refuses 5 0) ∷
     plan clash 1 (2 ∷ 0 ∷ []) (1 ∷ 9 ∷ []) ∷
     plan reader 2 (0 ∷ 0 ∷ []) (1 ∷ 0 ∷ []) ∷

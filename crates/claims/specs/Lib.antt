@@ -1,4 +1,6 @@
 pub mod Cases
+pub mod Letter
+pub mod Programs
 pub mod Serial
 pub mod Shown
 pub mod Third

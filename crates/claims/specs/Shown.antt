@@ -8,7 +8,7 @@ use Rattle.ledger.specs.Version.{at}
 use Rattle.ledger.specs.Tx.{Tx}
 use Rattle.ledger.specs.State.{State, stateOf}
 use Rattle.ledger.specs.Commit.{commitBatch}
-use Rattle.planner.specs.Plan.{Plans, planBatch}
+use Rattle.planning.specs.Plan.{Plans, planBatch}
 use Rattle.lister.specs.Written.{first, answer}
 use Rattle.claims.specs.Cases.{tx, none, put}
 

@@ -1,40 +1,109 @@
-// Runs the cases of document 01 that are not in the proved table, and others at each edge: a line for each group, with how many came out right.
-mod batches;
-mod lent;
-mod pages;
-mod plans;
-mod tally;
-mod texts;
+// Runs the cases that tools/edges.py writes on the six services. A line for each service says how many came out right; a line
+// before it names the first that did not, and one behind it says so where the input is not whole.
+mod cases;
+mod given;
+mod lists;
+mod numbers;
+mod packed;
+mod services;
 mod transactions;
 
+use libc::STDOUT_FILENO;
+ghost use Prim.Native.Nat.{_≤_};
+ghost use lib.ListN.{length};
+
+// The bytes of a packed case's size, which stands before it; after the last case of a service it is 0.
+const SIZE: usize = 4;
+
+// The most bytes of a case, and of the input.
+const MOST: usize = 81920;
+
+const MOST_INPUT: usize = 327680;
+
+// One more.
+fn more(count: u64) -> u64 {
+    std::num::wrapping_add_u64(count, 1)
+}
+
+fn write(text: &[u8]) {
+    io::write_all(STDOUT_FILENO, text);
+}
+
+// Writes how many cases of a service came out right.
+fn show(name: &[u8], right: u64, all: u64) {
+    write(name);
+    io::print_decimal(STDOUT_FILENO, right);
+    write(b" of ");
+    io::print_decimal(STDOUT_FILENO, all);
+    write(b"\n");
+}
+
+// Unpacks a case and runs it. Where it comes out wrong its number, if it is not 0, and its sentence are shown.
+fn run_packed(service: u8, packed: &[u8], number: u64) -> bool {
+    let mut case = [0u8; MOST];
+    let size = packed::unpack(packed, &mut case);
+    let right = services::run(service, &case[..size]);
+    if !right && number > 0 {
+        write(b"not right is case ");
+        io::print_decimal(STDOUT_FILENO, number);
+        write(b": ");
+        write(cases::sentence(&case[..size]));
+        write(b"\n");
+    }
+    right
+}
+
+// Runs the cases of a service from a place of the input on, and gives the place behind them.
+fn run_service(input: &[u8], from: usize, service: u8, name: &[u8]) -> usize
+    requires { ⌜ from ≤ length (now input) ⌝ }
+    ensures { λ r. ⌜ r ≤ length (now (input .entry)) ⌝ }
+{
+    let mut at = from;
+    let mut right = 0;
+    let mut all = 0;
+    while SIZE <= input.len() - at {
+        let size = numbers::four(input, at) as usize;
+        at += SIZE;
+        if size == 0 {
+            show(name, right, all);
+            return at;
+        }
+        if input.len() - at < size {
+            break;
+        }
+        let end = at + size;
+        let number = if right == all { more(all) } else { 0 };
+        if run_packed(service, &input[at..end], number) {
+            right = more(right);
+        }
+        all = more(all);
+        at = end;
+    }
+    show(name, right, all);
+    write(b"there the input breaks off\n");
+    input.len()
+}
+
+// Runs the cases of all six services.
+fn run_all(input: &[u8]) {
+    let at = run_service(input, 0, services::READ_PAGE, b"read page: ");
+    let at = run_service(input, at, services::WRITE_PAGE, b"write page: ");
+    let at = run_service(input, at, services::PLAN, b"plan: ");
+    let at = run_service(input, at, services::COMMIT, b"commit: ");
+    let at = run_service(input, at, services::READ_TONNAGE, b"read tonnage: ");
+    let at = run_service(input, at, services::WRITE_TONNAGE, b"write tonnage: ");
+    if at != input.len() {
+        write(b"the input does not end there\n");
+    }
+}
+
+// Reads standard input into a buffer and runs it; of an input that is too long a part is missing, which is said.
+fn run(buffer: &mut [u8]) {
+    let size = io::read_full(libc::STDIN_FILENO, buffer);
+    run_all(&buffer[..size]);
+}
+
 fn main() {
-    tally::show(b"tonnage text, read: ", texts::read());
-    tally::show(b"tonnage text, one byte changed: ", texts::changed());
-    tally::show(b"tonnage text, hundreds of digits: ", texts::long());
-    tally::show(b"tonnage text, written: ", texts::written());
-    tally::show(b"tonnage text, each length of buffer: ", texts::buffers());
-    tally::show(b"pages, read and written: ", pages::round());
-    tally::show(
-        b"pages, each fault alone and with each higher one: ",
-        pages::faults(),
-    );
-    tally::show(b"pages, both sides of each bound: ", pages::bounds());
-    tally::show(
-        b"pages, each fault of a transaction to be written: ",
-        pages::spoils(),
-    );
-    tally::show(b"pages, counts and room: ", pages::counts());
-    tally::show(b"commit, the rules: ", batches::rules());
-    tally::show(b"commit, both sides of a state entry: ", batches::entries());
-    tally::show(b"commit, both sides of each length: ", batches::lengths());
-    tally::show(
-        b"commit, each fault alone and with each later one: ",
-        batches::faults(),
-    );
-    tally::show(b"commit, the lowest page at fault: ", batches::lowest());
-    tally::show(b"plan, the cases of the table: ", plans::cases());
-    tally::show(b"plan, cycles and stale pages: ", plans::losers());
-    tally::show(b"plan, the listing and Table 3: ", plans::examples());
-    tally::show(b"plan, chains and cycles of 64 pages: ", plans::long());
-    tally::show(b"plan, each length of the lent lists: ", plans::lengths());
+    let mut buffer = [0u8; MOST_INPUT];
+    run(&mut buffer);
 }

@@ -1,85 +1,79 @@
-// Transactions made entry by entry, and the pages that they make.
+// Transactions in a case: ticket, counts, then 32 reads and 32 writes as on a page, whatever the counts.
+use crate::numbers;
+use crate::numbers::beyond;
 use ledger::Read;
 use ledger::Transaction;
 use ledger::Version;
 use ledger::Write;
 
-// The place of an absent version; its block is 0.
-pub const NOWHERE: u16 = 65535;
+// Where the counts and the entries stand behind the ticket.
+const R: usize = 4;
 
-// The most reads, and the most writes.
-const MOST: usize = 32;
+const W: usize = 12;
 
-// A transaction that reads and writes nothing.
-pub fn empty(ticket: u32) -> Transaction {
-    let reads = [Read {
-        key: 0,
-        version: Version { block: 0, place: 0 },
-    }; 32];
-    let writes = [Write {
-        key: 0,
-        kind: 0,
-        value: 0,
-    }; 32];
-    Transaction {
-        ticket,
-        r: 0,
-        w: 0,
-        reads,
-        writes,
-    }
-}
+const READS: usize = 20;
 
-// One read more.
-pub fn read(t: Transaction, key: u16, block: u32, place: u16) -> Transaction {
-    let mut reads = t.reads;
-    let writes = t.writes;
-    let r = t.r;
-    if r >= MOST {
-        return t;
-    }
-    reads[r] = Read {
-        key,
-        version: Version { block, place },
+const WRITES: usize = 276;
+
+fn read(case: &[u8], at: usize) -> Read {
+    let version = Version {
+        block: numbers::four(case, beyond(at, 4)),
+        place: numbers::two(case, beyond(at, 2)),
     };
+    Read {
+        key: numbers::two(case, at),
+        version,
+    }
+}
+
+fn write(case: &[u8], at: usize) -> Write {
+    Write {
+        key: numbers::two(case, at),
+        kind: numbers::two(case, beyond(at, 2)),
+        value: numbers::signed(case, beyond(at, 4)),
+    }
+}
+
+// The transaction at a place of a case.
+pub fn transaction(case: &[u8], at: usize) -> Transaction {
+    let mut reads = [read(case, at); 32];
+    let mut writes = [write(case, at); 32];
+    for i in 0..32 {
+        reads[i] = read(case, beyond(at, READS + 8 * i));
+        writes[i] = write(case, beyond(at, WRITES + 12 * i));
+    }
     Transaction {
-        ticket: t.ticket,
-        r: r + 1,
-        w: t.w,
+        ticket: numbers::four(case, at),
+        r: numbers::eight(case, beyond(at, R)) as usize,
+        w: numbers::eight(case, beyond(at, W)) as usize,
         reads,
         writes,
     }
 }
 
-// One read more, of an absent key.
-pub fn read_absent(t: Transaction, key: u16) -> Transaction {
-    read(t, key, 0, NOWHERE)
+fn same_read(a: Read, b: Read) -> bool {
+    let v = a.version;
+    let u = b.version;
+    a.key == b.key && v.block == u.block && v.place == u.place
 }
 
-// One write more.
-fn write(t: Transaction, key: u16, kind: u16, value: i64) -> Transaction {
+fn same_write(a: Write, b: Write) -> bool {
+    a.key == b.key && a.kind == b.kind && a.value == b.value
+}
+
+// Whether a transaction is the one at a place of a case, in all 32 reads and writes.
+pub fn same(case: &[u8], at: usize, t: Transaction) -> bool {
     let reads = t.reads;
-    let mut writes = t.writes;
-    let w = t.w;
-    if w >= MOST {
-        return t;
+    let writes = t.writes;
+    for i in 0..32 {
+        if !same_read(reads[i], read(case, beyond(at, READS + 8 * i))) {
+            return false;
+        }
+        if !same_write(writes[i], write(case, beyond(at, WRITES + 12 * i))) {
+            return false;
+        }
     }
-    writes[w] = Write { key, kind, value };
-    Transaction {
-        ticket: t.ticket,
-        r: t.r,
-        w: w + 1,
-        reads,
-        writes,
-    }
-}
-
-// One put more.
-pub fn put(t: Transaction, key: u16, value: i64) -> Transaction {
-    write(t, key, 0, value)
-}
-
-// One delete more.
-pub fn delete(t: Transaction, key: u16) -> Transaction {
-    write(t, key, 1, 0)
+    t.ticket == numbers::four(case, at)
+        && t.r == numbers::eight(case, beyond(at, R)) as usize
+        && t.w == numbers::eight(case, beyond(at, W)) as usize
 }

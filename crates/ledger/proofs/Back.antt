@@ -1,11 +1,11 @@
--- The page of a transaction with no fault is good, and holds the transaction. Assumes nothing.
+-- The page of a transaction with no fault is good, and holds the transaction; so do the bytes that the writer lays out first. Assumes nothing.
 use mathlib.Core.Path.{_≡_, refl, sym, ap, ap₂, _∙_}
 use mathlib.Core.Bool.{false}
 use mathlib.Core.List.{List, [], _∷_, _++_, append-assoc}
 use Prim.Native.Nat.{ℕ, _+_, _-_, _*_, _^_, _≤_, _<_}
 use native.Mathlib.Omega.{arith}
-use lib.ListN.{length, getD, replicate, length-take, getD-replicate, length-replicate, List·getD-append}
-use lib.Seq.{getD-append-add}
+use lib.ListN.{length, getD, replicate, length-append, length-take, getD-replicate, length-replicate, replicate-append-replicate, List·getD-append}
+use lib.Seq.{sets, getD-append-add}
 use mir.Syntax.{w64}
 use mir.Val.{toZ, ofZ}
 use mir.Facts.{toZ-ofZ, fits-ofZ}
@@ -16,13 +16,14 @@ use Rattle.ledger.specs.declared.Transaction.{Transaction}
 use Rattle.lists.specs.Tables.{tab, flat}
 use Rattle.octets.specs.Bytes.{field, le, weighed, set?, Small}
 use Rattle.ledger.specs.Tx.{Tx, noRead, noWrite, readOf, writeOf, valueTx, ReadFits, WriteFits, TransactionFits}
-use Rattle.ledger.specs.Page.{readCount, writeCount, size, readAt, writeAt, readBytes, writeBytes, bodyOf, pageOf, pageTx, countRows, headRows, entryRows, spareRow, pageFault}
+use Rattle.ledger.specs.Page.{readCount, writeCount, size, readAt, writeAt, readBytes, writeBytes, laidOf, bodyOf, pageOf, pageTx, countRows, headRows, entryRows, spareRow, pageFault, Counted}
 use Rattle.octets.proofs.Numbers.{check-most}
+use Rattle.octets.proofs.Stored.{length-le}
 use Rattle.lists.proofs.Tables.{tab-same, tab-list}
 use Rattle.ledger.proofs.Stored.{length-read, length-write}
 use Rattle.octets.proofs.Fields.{field-skip, field-front, field-le, entry-first, entry-second, entry-third, entry-field, small-le, small-cons, small-append, small-entry, small-flat, small-zeros}
-use Rattle.ledger.proofs.Laid.{front, upToWrites, upToSpare, length-front, length-two, length-three, length-body, length-whole, weighed-front}
-use Rattle.ledger.proofs.Valued.{read-of, write-of}
+use Rattle.ledger.proofs.Laid.{front, upToWrites, upToSpare, length-front, length-two, length-three, length-body, length-whole, weighed-front, sets-zeros, sets-end}
+use Rattle.ledger.proofs.Valued.{read-of, write-of, reads-many, writes-many}
 use Rattle.refusals.specs.Fault.{clear, first}
 use Rattle.refusals.proofs.Rows.{row-passed}
 use Rattle.ledger.proofs.Faults.{Roomy, roomy, headFault, by-spare}
@@ -56,44 +57,76 @@ module _ (x : Tx) where
   abbrev head : List ℕ
   head = front r w (x .ticket) f g
 
-  -- what follows the entries
+  -- a page that begins with the transaction's bytes, whatever follows them
+  module _ (rest : List ℕ) where
+    abbrev page : List ℕ
+    page = laidOf x ++ rest
+
+    at-writes : page ≡ upToWrites r w (x .ticket) f g ++ (flat w g ++ rest)
+    at-writes = append-assoc (upToWrites r w (x .ticket) f g) (flat w g) rest
+
+    at-reads : page ≡ head ++ (flat r f ++ (flat w g ++ rest))
+    at-reads = at-writes ∙ append-assoc head (flat r f) _
+
+    read-field : (i j m at : ℕ) → i < r → j + m ≤ 8 → at ≡ 8 + (8 * i + j) → field page at m ≡ field (f i) j m
+    read-field i j m at h k e =
+        ap (λ (l : List ℕ). field l at m) at-reads
+        ∙ entry-field 8 f each-read j m k head r _ i at h (omega (arith, length-front r w (x .ticket) f g))
+
+    write-field : (i j m at : ℕ) → i < w → j + m ≤ 12 → at ≡ 8 + 8 * r + (12 * i + j) → field page at m ≡ field (g i) j m
+    write-field i j m at h k e =
+        ap (λ (l : List ℕ). field l at m) at-writes
+        ∙ entry-field 12 g each-write j m k (upToWrites r w (x .ticket) f g) w _ i at h (omega (arith, length-two r w (x .ticket) f g each-read each-write))
+
+    read-back : (i : ℕ) → i < r → ReadFits (readOf (x .reads) i) → readAt page (8 + 8 * i) ≡ readOf (x .reads) i
+    read-back i h fits =
+        let y = readOf (x .reads) i in
+        let a : field page (8 + 8 * i) 2 ≡ y .key = read-field i 0 2 _ h (omega arith) (omega arith) ∙ entry-first _ _ 4 _ (fits .key) in
+        let b : field page (8 + 8 * i + 2) 2 ≡ y .version .place = read-field i 2 2 _ h (omega arith) (omega arith) ∙ entry-second _ _ 4 _ (fits .place) in
+        let c : field page (8 + 8 * i + 4) 4 ≡ y .version .block = read-field i 4 4 _ h (omega arith) (omega arith) ∙ entry-third _ _ 4 _ (fits .block) in
+        λ k. record { key = a k; version = record { block = c k; place = b k } }
+
+    write-back : (i : ℕ) → i < w → WriteFits (writeOf (x .writes) i) → writeAt page (8 + 8 * r + 12 * i) ≡ writeOf (x .writes) i
+    write-back i h fits =
+        let y = writeOf (x .writes) i in
+        let at = 8 + 8 * r + 12 * i in
+        let a : field page at 2 ≡ y .key = write-field i 0 2 _ h (omega arith) (omega arith) ∙ entry-first _ _ 8 _ (fits .key) in
+        let b : field page (at + 2) 2 ≡ y .kind = write-field i 2 2 _ h (omega arith) (omega arith) ∙ entry-second _ _ 8 _ (fits .kind) in
+        let c : field page (at + 4) 8 ≡ ofZ w64 (y .value) = write-field i 4 8 _ h (omega arith) (omega arith) ∙ entry-third _ _ 8 _ (fits-ofZ (fits .value) .fits) in
+        let d : toZ w64 (field page (at + 4) 8) ≡ y .value = ap (toZ w64) c ∙ toZ-ofZ (fits .value) in
+        λ k. record { key = a k; kind = b k; value = d k }
+
+    module _ (fits : Fitting x) where
+      ticket-back : field page 4 4 ≡ x .ticket
+      ticket-back =
+          ap (λ (l : List ℕ). field l 4 4) at-reads
+          ∙ field-front head _ 4 4 (omega (arith, length-front r w (x .ticket) f g))
+          ∙ field-skip (0x54 ∷ r ∷ w ∷ 0 ∷ []) (le 4 (x .ticket)) 0 4
+          ∙ field-le 4 (x .ticket) (fits .ticket)
+
+      reads-back : tab r (λ i. readAt page (8 + 8 * i)) ≡ x .reads
+      reads-back = tab-same _ _ r (λ i l. read-back i l (fits .reads i l)) ∙ tab-list (x .reads) noRead
+
+      writes-back : tab w (λ i. writeAt page (8 + 8 * r + 12 * i)) ≡ x .writes
+      writes-back = tab-same _ _ w (λ i l. write-back i l (fits .writes i l)) ∙ tab-list (x .writes) noWrite
+
+      pub tx-laid : pageTx page ≡ x
+      unfolding pageTx
+      tx-laid = λ k. record { ticket = ticket-back k; reads = reads-back k; writes = writes-back k }
+
+    pub counted-laid : Roomy r w → length page ≡ 512 → Counted page
+    counted-laid n long = record { whole = long; few-reads = n .few-reads; few-writes = n .few-writes; room = n .room }
+
+  -- the page itself
   abbrev tail : List ℕ
   tail = replicate (500 - size r w) 0 ++ le 4 (weighed (bodyOf x) 508)
 
-  at-writes : pageOf x ≡ upToWrites r w (x .ticket) f g ++ (flat w g ++ tail)
+  page-laid : pageOf x ≡ laidOf x ++ tail
   unfolding pageOf bodyOf
-  at-writes = append-assoc (upToSpare r w (x .ticket) f g) _ _ ∙ append-assoc (upToWrites r w (x .ticket) f g) (flat w g) _
+  page-laid = append-assoc (laidOf x) _ _
 
-  at-reads : pageOf x ≡ head ++ (flat r f ++ (flat w g ++ tail))
-  at-reads = at-writes ∙ append-assoc head (flat r f) _
-
-  read-field : (i j m at : ℕ) → i < r → j + m ≤ 8 → at ≡ 8 + (8 * i + j) → field (pageOf x) at m ≡ field (f i) j m
-  read-field i j m at h k e =
-      ap (λ (l : List ℕ). field l at m) at-reads
-      ∙ entry-field 8 f each-read j m k head r _ i at h (omega (arith, length-front r w (x .ticket) f g))
-
-  write-field : (i j m at : ℕ) → i < w → j + m ≤ 12 → at ≡ 8 + 8 * r + (12 * i + j) → field (pageOf x) at m ≡ field (g i) j m
-  write-field i j m at h k e =
-      ap (λ (l : List ℕ). field l at m) at-writes
-      ∙ entry-field 12 g each-write j m k (upToWrites r w (x .ticket) f g) w _ i at h (omega (arith, length-two r w (x .ticket) f g each-read each-write))
-
-  read-back : (i : ℕ) → i < r → ReadFits (readOf (x .reads) i) → readAt (pageOf x) (8 + 8 * i) ≡ readOf (x .reads) i
-  read-back i h fits =
-      let y = readOf (x .reads) i in
-      let a : field (pageOf x) (8 + 8 * i) 2 ≡ y .key = read-field i 0 2 _ h (omega arith) (omega arith) ∙ entry-first _ _ 4 _ (fits .key) in
-      let b : field (pageOf x) (8 + 8 * i + 2) 2 ≡ y .version .place = read-field i 2 2 _ h (omega arith) (omega arith) ∙ entry-second _ _ 4 _ (fits .place) in
-      let c : field (pageOf x) (8 + 8 * i + 4) 4 ≡ y .version .block = read-field i 4 4 _ h (omega arith) (omega arith) ∙ entry-third _ _ 4 _ (fits .block) in
-      λ k. record { key = a k; version = record { block = c k; place = b k } }
-
-  write-back : (i : ℕ) → i < w → WriteFits (writeOf (x .writes) i) → writeAt (pageOf x) (8 + 8 * r + 12 * i) ≡ writeOf (x .writes) i
-  write-back i h fits =
-      let y = writeOf (x .writes) i in
-      let at = 8 + 8 * r + 12 * i in
-      let a : field (pageOf x) at 2 ≡ y .key = write-field i 0 2 _ h (omega arith) (omega arith) ∙ entry-first _ _ 8 _ (fits .key) in
-      let b : field (pageOf x) (at + 2) 2 ≡ y .kind = write-field i 2 2 _ h (omega arith) (omega arith) ∙ entry-second _ _ 8 _ (fits .kind) in
-      let c : field (pageOf x) (at + 4) 8 ≡ ofZ w64 (y .value) = write-field i 4 8 _ h (omega arith) (omega arith) ∙ entry-third _ _ 8 _ (fits-ofZ (fits .value) .fits) in
-      let d : toZ w64 (field (pageOf x) (at + 4) 8) ≡ y .value = ap (toZ w64) c ∙ toZ-ofZ (fits .value) in
-      λ k. record { key = a k; kind = b k; value = d k }
+  tx-back : Fitting x → pageTx (pageOf x) ≡ x
+  tx-back fits = ap pageTx page-laid ∙ tx-laid tail fits
 
   r-back : readCount (pageOf x) ≡ r
   unfolding pageOf bodyOf
@@ -110,30 +143,6 @@ module _ (x : Tx) where
   three-back : getD (pageOf x) 3 0 ≡ 0
   unfolding pageOf bodyOf
   three-back = refl
-
-  module _ (fits : Fitting x) where
-    ticket-back : field (pageOf x) 4 4 ≡ x .ticket
-    ticket-back =
-        ap (λ (l : List ℕ). field l 4 4) at-reads
-        ∙ field-front head _ 4 4 (omega (arith, length-front r w (x .ticket) f g))
-        ∙ field-skip (0x54 ∷ r ∷ w ∷ 0 ∷ []) (le 4 (x .ticket)) 0 4
-        ∙ field-le 4 (x .ticket) (fits .ticket)
-
-    reads-back : tab (readCount (pageOf x)) (λ i. readAt (pageOf x) (8 + 8 * i)) ≡ x .reads
-    reads-back =
-        ap (λ n. tab n (λ i. readAt (pageOf x) (8 + 8 * i))) r-back
-        ∙ tab-same _ _ r (λ i l. read-back i l (fits .reads i l))
-        ∙ tab-list (x .reads) noRead
-
-    writes-back : tab (writeCount (pageOf x)) (λ i. writeAt (pageOf x) (8 + 8 * readCount (pageOf x) + 12 * i)) ≡ x .writes
-    writes-back =
-        ap₂ (λ a b. tab b (λ i. writeAt (pageOf x) (8 + 8 * a + 12 * i))) r-back w-back
-        ∙ tab-same _ _ w (λ i l. write-back i l (fits .writes i l))
-        ∙ tab-list (x .writes) noWrite
-
-    pub tx-back : pageTx (pageOf x) ≡ x
-    unfolding pageTx
-    tx-back = λ k. record { ticket = ticket-back k; reads = reads-back k; writes = writes-back k }
 
   module _ (n : Roomy r w) where
     small-body : Small (bodyOf x)
@@ -156,6 +165,29 @@ module _ (x : Tx) where
     pub long-page : length (pageOf x) ≡ 512
     unfolding pageOf bodyOf
     long-page = length-whole r w (x .ticket) f g each-read each-write (n .room)
+
+    -- the transaction's bytes laid out in zeros: the page but for its check
+    pub laid-zeros : sets (replicate 512 0) 0 (laidOf x) ≡ laidOf x ++ replicate (504 - size r w) 0
+    laid-zeros = sets-zeros (laidOf x) (504 - size r w) 512 (omega (arith, length-three r w (x .ticket) f g each-read each-write, n .room))
+
+    pub long-zeros : length (laidOf x ++ replicate (504 - size r w) 0) ≡ 512
+    long-zeros =
+        length-append (laidOf x) _
+        ∙ omega (arith, length-three r w (x .ticket) f g each-read each-write, length-replicate {A = ℕ} (504 - size r w) 0, n .room)
+
+    body-zeros : laidOf x ++ replicate (504 - size r w) 0 ≡ bodyOf x ++ replicate 4 0
+    unfolding bodyOf
+    body-zeros =
+        let e : 500 - size r w + 4 ≡ 504 - size r w = omega (arith, n .room) in
+        sym (append-assoc (laidOf x) (replicate (500 - size r w) 0) (replicate 4 0)
+        ∙ ap (λ (l : List ℕ). laidOf x ++ l) (replicate-append-replicate {A = ℕ} (500 - size r w) 4 0 ∙ ap (λ k. replicate k 0) e))
+
+    pub page-filled : (p : List ℕ) → p ≡ laidOf x ++ replicate (504 - size r w) 0 → sets p 508 (le 4 (weighed p 508)) ≡ pageOf x
+    unfolding pageOf
+    page-filled p e =
+        rw (e ∙ body-zeros)
+        (ap (λ k. sets (bodyOf x ++ replicate 4 0) 508 (le 4 k)) (weighed-front (bodyOf x) _ 508 (omega (arith, long-body)))
+        ∙ sets-end (bodyOf x) (replicate 4 0) (le 4 (weighed (bodyOf x) 508)) 508 long-body (length-le 4 (weighed (bodyOf x) 508)))
 
     check-back : weighed (pageOf x) 508 ≡ field (pageOf x) 508 4
     unfolding pageOf
@@ -217,6 +249,26 @@ module _ (t : Transaction) where
     reads = λ i h. let l : i < t .r = omega (arith, reads-few) in rw (read-of t i l) (fits .reads i l);
     writes = λ i h. let l : i < t .w = omega (arith, writes-few) in rw (write-of t i l) (fits .writes i l);
   }
+
+-- what the writer lays out in zeros: its counts are good, it holds the transaction, and its check makes it the page
+pub record Drafted (t : Transaction) (p : List ℕ) : Type 0 where
+  pub counted : Counted p
+  pub holds : pageTx p ≡ valueTx t
+  pub filled : sets p 508 (le 4 (weighed p 508)) ≡ pageOf (valueTx t)
+
+pub drafted : (t : Transaction) → TransactionFits t → length (t .reads) ≡ 32 → length (t .writes) ≡ 32 → Roomy (t .r) (t .w)
+    → (p : List ℕ) → p ≡ sets (replicate 512 0) 0 (laidOf (valueTx t)) → Drafted t p
+drafted t fits lr lw n p e =
+    let x = valueTx t in
+    let reads : length (x .reads) ≡ t .r = reads-many t (omega arith) (omega arith) in
+    let writes : length (x .writes) ≡ t .w = writes-many t (omega arith) (omega arith) in
+    let m : Roomy (length (x .reads)) (length (x .writes)) = rw (reads, writes) n in
+    let laid : p ≡ laidOf x ++ replicate (504 - size (length (x .reads)) (length (x .writes))) 0 = e ∙ laid-zeros x m in
+    record {
+      counted = rw laid (counted-laid x _ m (long-zeros x m));
+      holds = ap pageTx laid ∙ tx-laid x _ (fitting t fits);
+      filled = page-filled x m p laid;
+    }
 
 -- fewer entries have room too
 room-less : (r w a b : ℕ) → a ≤ r → b ≤ w → first (countRows r w) ≡ clear → first (countRows a b) ≡ clear

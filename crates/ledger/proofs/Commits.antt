@@ -9,35 +9,31 @@ use native.Mathlib.Omega.{arith}
 use lib.ListN.{length, set, take, drop, length-append, length-drop, length-set}
 use lib.Seq.{take-suc, take-all, drop-cons, set-at, append-snoc}
 use lib.Dec.{eqb, ltb}
-use borrow.Author.Tests.{ltb-false, eq-eqb, ne-eqb}
-use lib.IntN.{ℤ}
 use Rattle.lists.specs.Choice.{pick}
 use Rattle.lists.specs.Search.{firstIn}
 use Rattle.lists.proofs.Searches.{within, all-search}
 use Rattle.lists.proofs.Tests.{eqb-not}
 use Rattle.lists.proofs.Membership.{those-append}
 use Rattle.refusals.specs.Outcome.{Outcome, gives, refuses}
-use Rattle.refusals.specs.Fault.{clear}
-use Rattle.refusals.proofs.Rows.{judged-gives, judged-refuses}
+use Rattle.refusals.specs.Fault.{clear, fault, Row}
 use Rattle.ledger.specs.declared.Version.{Version}
 use Rattle.ledger.specs.declared.Write.{Write}
-use Rattle.ledger.specs.declared.Committed.the-variants.{Passed}
+use Rattle.ledger.specs.declared.Entry.{Entry}
+use Rattle.ledger.specs.declared.Stamp.{Stamp}
 use Rattle.lists.specs.Tables.{tab}
-use Rattle.ledger.specs.Version.{at}
 use Rattle.ledger.specs.Tx.{Tx, noRead, readOf, writeOf, noWrite}
 use Rattle.ledger.specs.Page.{pageAt, pageTx}
-use Rattle.ledger.specs.State.{State, Entry, Level, gone, keys, store}
-use Rattle.ledger.specs.Gate.{pages, txAt, txs, gateFault, gate, Batch}
-use Rattle.ledger.specs.Commit.{names, passes, left, write, afterPage, verdict, commit, verdicts, passed, commits, commitBatch, committed}
+use Rattle.ledger.specs.State.{State, Level, keys, versions, store}
+use Rattle.ledger.specs.Gate.{pages, txAt, txs, lentRow, gateFault}
+use Rattle.ledger.specs.Commit.{names, passes, stamp, left, write, afterPage, verdict, commit, verdicts, passed, Commitment, commitBatch}
 use Rattle.lists.proofs.Tables.{length-tab}
-use Rattle.ledger.proofs.Gated.{Through, gate-open}
 
 -- ---- one more at the end
 
-pub write-last : (n i : ℕ) (s : State) (ws : List Write) (w : Write) → write n i s (ws ++ (w ∷ [])) ≡ store (write n i s ws) (w .key) (left n i w)
+pub write-last : (st : Stamp) (s : State) (ws : List Write) (w : Write) → write st s (ws ++ (w ∷ [])) ≡ store (write st s ws) (w .key) (left st w)
 unfolding write
-write-last n i s [] w = refl
-write-last n i s (v ∷ ws) w = write-last n i (store s (v .key) (left n i v)) ws w
+write-last st s [] w = refl
+write-last st s (v ∷ ws) w = write-last st (store s (v .key) (left st v)) ws w
 
 pub commit-last : (n i : ℕ) (s : State) (xs : List Tx) (x : Tx) → commit n i s (xs ++ (x ∷ [])) ≡ afterPage n (i + length xs) (commit n i s xs) x
 unfolding commit
@@ -84,19 +80,19 @@ unfolding store
 store-kept s k e =
     record { blocks = length-set (s .blocks) k _; places = length-set (s .places) k _; values = length-set (s .values) k _ }
 
-pub write-kept : (n i : ℕ) (s : State) (ws : List Write) → Kept s (write n i s ws)
+pub write-kept : (st : Stamp) (s : State) (ws : List Write) → Kept s (write st s ws)
 unfolding write
-write-kept n i s [] = kept-self s
-write-kept n i s (w ∷ ws) =
-    let t = store s (w .key) (left n i w) in
-    kept-more s t _ (store-kept s (w .key) (left n i w)) (write-kept n i t ws)
+write-kept st s [] = kept-self s
+write-kept st s (w ∷ ws) =
+    let t = store s (w .key) (left st w) in
+    kept-more s t _ (store-kept s (w .key) (left st w)) (write-kept st t ws)
 
 pub after-kept : (n i : ℕ) (s : State) (x : Tx) → Kept s (afterPage n i s x)
 unfolding afterPage
-after-kept n i s x = go (passes s x)
+after-kept n i s x = go (passes (versions s) x)
   where
-    go : (b : Bool) → Kept s (pick b (write n i s (x .writes)) s)
-    go true = write-kept n i s (x .writes)
+    go : (b : Bool) → Kept s (pick b (write (stamp n i) s (x .writes)) s)
+    go true = write-kept (stamp n i) s (x .writes)
     go false = kept-self s
 
 pub commit-kept : (n i : ℕ) (s : State) (xs : List Tx) → Kept s (commit n i s xs)
@@ -106,64 +102,50 @@ commit-kept n i s (x ∷ xs) =
     let t = afterPage n i s x in
     kept-more s t _ (after-kept n i s x) (commit-kept n (suc i) t xs)
 
-pub commit-level : (n i : ℕ) (s : State) (xs : List Tx) → Level (s .blocks) (s .places) (s .values)
-    → Level (commit n i s xs .blocks) (commit n i s xs .places) (commit n i s xs .values)
-commit-level n i s xs l = kept-level s (commit n i s xs) (commit-kept n i s xs) l
-
 -- ---- the version check, as a search
 
-pub passes-search : (s : State) (x : Tx) (n stop : ℕ) → n ≡ length (x .reads)
-    → stop ≡ firstIn (λ i. not (names s (readOf (x .reads) i))) 0 (length (x .reads))
-    → eqb stop n ≡ passes s x
+pub passes-search : (held : ℕ → Version) (x : Tx) (n stop : ℕ) → n ≡ length (x .reads)
+    → stop ≡ firstIn (λ i. not (names held (readOf (x .reads) i))) 0 (length (x .reads))
+    → eqb stop n ≡ passes held x
 unfolding passes
-passes-search s x n stop count found =
+passes-search held x n stop count found =
     rw (count, found)
-    (eqb-not _ _ (within (λ i. not (names s (readOf (x .reads) i))) 0 (length (x .reads)) (omega arith))
-    ∙ sym (all-search (names s) noRead (x .reads)))
-
--- ---- what a write leaves
-
-module _ (s t : State) (n i : ℕ) (w : Write) where
-  pub stored-put : (v : Version) (z : ℤ) → t ≡ store s (w .key) (record { version = v; value = z }) → w .kind ≡ 0 → v ≡ at n i → z ≡ w .value
-      → t ≡ store s (w .key) (left n i w)
-  stored-put v z h k e f = h ∙ rw (eq-eqb (w .kind) 0 k, e, f)
-
-  pub stored-gone : t ≡ store s (w .key) gone → (w .kind ≡ 0 → ⊥) → t ≡ store s (w .key) (left n i w)
-  stored-gone h f = h ∙ rw (ne-eqb (w .kind) 0 f)
+    (eqb-not _ _ (within (λ i. not (names held (readOf (x .reads) i))) 0 (length (x .reads)) (omega arith))
+    ∙ sym (all-search (names held) noRead (x .reads)))
 
 -- ---- the writes of a page in turn
 
 -- j of the writes are made
-pub record Writing (n i : ℕ) (s : State) (ws : List Write) (j : ℕ) (t : State) : Type 0 where
-  pub so-far : t ≡ write n i s (take j ws)
+pub record Writing (st : Stamp) (s : State) (ws : List Write) (j : ℕ) (t : State) : Type 0 where
+  pub so-far : t ≡ write st s (take j ws)
 
-pub writing-begins : (n i : ℕ) (s : State) (ws : List Write) → Writing n i s ws 0 s
+pub writing-begins : (st : Stamp) (s : State) (ws : List Write) → Writing st s ws 0 s
 unfolding write
-writing-begins n i s ws = record { so-far = refl }
+writing-begins st s ws = record { so-far = refl }
 
-module _ {n i : ℕ} {s : State} {ws : List Write} {j : ℕ} {t : State} (h : Writing n i s ws j t) where
+module _ {st : Stamp} {s : State} {ws : List Write} {j : ℕ} {t : State} (h : Writing st s ws j t) where
   pub writing-kept : Kept s t
-  writing-kept = rw (h .so-far) (write-kept n i s (take j ws))
+  writing-kept = rw (h .so-far) (write-kept st s (take j ws))
 
   pub writing-level : Level (s .blocks) (s .places) (s .values) → Level (t .blocks) (t .places) (t .values)
   writing-level l = kept-level s t writing-kept l
 
-  pub writing-turns : (w : Write) (u : State) → j < length ws → w ≡ writeOf ws j → u ≡ store t (w .key) (left n i w) → Writing n i s ws (j + 1) u
+  pub writing-turns : (w : Write) (u : State) → j < length ws → w ≡ writeOf ws j → u ≡ store t (w .key) (left st w) → Writing st s ws (j + 1) u
   writing-turns w u l e f = record {
-    so-far = f ∙ rw (e, h .so-far, add-one, take-suc ws j noWrite l) (sym (write-last n i s (take j ws) (writeOf ws j)));
+    so-far = f ∙ rw (e, h .so-far, add-one, take-suc ws j noWrite l) (sym (write-last st s (take j ws) (writeOf ws j)));
   }
 
-  pub writing-ends : length ws ≤ j → t ≡ write n i s ws
-  writing-ends l = h .so-far ∙ ap (write n i s) (take-all j ws l)
+  pub writing-ends : length ws ≤ j → t ≡ write st s ws
+  writing-ends l = h .so-far ∙ ap (write st s) (take-all j ws l)
 
 -- ---- one page
 
 module _ (n i : ℕ) (s : State) (x : Tx) where
-  pub page-fails : passes s x ≡ false → s ≡ afterPage n i s x
+  pub page-fails : passes (versions s) x ≡ false → s ≡ afterPage n i s x
   unfolding afterPage
   page-fails e = rw e
 
-  pub page-passes : (t : State) → passes s x ≡ true → t ≡ write n i s (x .writes) → t ≡ afterPage n i s x
+  pub page-passes : (t : State) → passes (versions s) x ≡ true → t ≡ write (stamp n i) s (x .writes) → t ≡ afterPage n i s x
   unfolding afterPage
   page-passes t e f = f ∙ rw e
 
@@ -210,7 +192,7 @@ module _ (batch : List ℕ) (s : State) (n : ℕ) (vs : List ℕ) where
 
     -- p is page i, b says whether it passes
     pub committing-turns : (p : List ℕ) (b : Bool) (more : ℕ) (u : State) (new : List ℕ) → i < length vs → p ≡ pageAt batch i
-        → b ≡ passes t (pageTx p)
+        → b ≡ passes (versions t) (pageTx p)
         → u ≡ afterPage n i t (pageTx p)
         → more ≡ count + pick b 1 0
         → new ≡ set ws i (pick b 0 3)
@@ -227,39 +209,33 @@ module _ (batch : List ℕ) (s : State) (n : ℕ) (vs : List ℕ) where
         go true = refl
         go false = refl
 
-    pub committing-ends : i ≡ pages batch → committed (Passed count) t ws ≡ commits batch s n vs
-    unfolding commits txs
-    committing-ends e = rw (c .count-is, c .state-is, c .verdicts-are, e)
+    pub committing-ends : i ≡ pages batch → Commitment batch s n vs count t ws
+    unfolding txs
+    committing-ends e = record {
+      count-is = rw e at (c .count-is);
+      state-is = rw e at (c .state-is);
+      verdicts-are = rw e at (c .verdicts-are);
+    }
 
 -- ---- a batch
 
 module _ (batch : List ℕ) (s : State) (n : ℕ) (vs : List ℕ) where
-  -- the gate, asked whether the verdicts are too short
-  abbrev pub asked : Outcome ℕ
-  asked = gate (ltb (length vs) (pages batch)) batch s n
+  -- the rows of commit's own
+  abbrev pub own : List Row
+  own = lentRow (ltb (length vs) (pages batch)) ∷ []
 
-  pub commit-refused : (number place : ℕ) → refuses number place ≡ asked
-      → record { answer = refuses number place; state = s; verdicts = vs } ≡ commitBatch batch s n vs
-  unfolding gate commitBatch
-  commit-refused number place e = rw (judged-refuses (gateFault (ltb (length vs) (pages batch)) batch s n) number place (pages batch) e, commitBatch)
+  pub commit-refused : {o : Outcome ℕ} {number place : ℕ} → o ≡ refuses number place → gateFault own batch s n ≡ fault number place
+      → record { answer = o; state = s; verdicts = vs } ≡ commitBatch batch s n vs
+  unfolding commitBatch
+  commit-refused h e = rw (h, e)
 
-  module _ (m : ℕ) (told : gives m ≡ asked) where
-    clear-is : (gateFault (ltb (length vs) (pages batch)) batch s n ≡ clear) × (m ≡ pages batch)
-    unfolding gate
-    clear-is = judged-gives (gateFault (ltb (length vs) (pages batch)) batch s n) m (pages batch) told
+  pub commit-taken : {count : ℕ} {t : State} {ws : List ℕ} → gateFault own batch s n ≡ clear → Commitment batch s n vs count t ws
+      → record { answer = gives count; state = t; verdicts = ws } ≡ commitBatch batch s n vs
+  unfolding commitBatch
+  commit-taken e c = rw (e, c .count-is, c .state-is, c .verdicts-are)
 
-    through : Through (ltb (length vs) (pages batch)) batch s n
-    through = gate-open (ltb (length vs) (pages batch)) batch s n (clear-is .0)
-
-    pub commit-batch : Batch (keys s) batch m
-    commit-batch = rw (clear-is .1) (through .ready)
-
-    pub commit-long : m ≤ length vs
-    commit-long = rw (clear-is .1) (ltb-false (length vs) (pages batch) (through .long))
-
-    pub commit-even : Level (s .blocks) (s .places) (s .values)
-    commit-even = through .level
-
-    pub commit-taken : commits batch s n vs ≡ commitBatch batch s n vs
-    unfolding commitBatch
-    commit-taken = rw (clear-is .0, commitBatch)
+  pub commit-open : gateFault own batch s n ≡ clear
+      → let new = verdicts n 0 s (txs batch) in
+      commitBatch batch s n vs ≡ record { answer = gives (passed new); state = commit n 0 s (txs batch); verdicts = new ++ drop (pages batch) vs }
+  unfolding commitBatch
+  commit-open e = rw e

@@ -5,13 +5,12 @@ use Prim.Native.Nat.{ℕ}
 use native.Mathlib.Omega.{arith}
 use lib.Dec.{eqb, leb, ltb}
 use lib.IntN.{ℤ}
-use mir.Syntax.{w64}
-use mir.Val.{ofZ}
 use borrow.Author.Tests.{leb-true, ne-eqb}
 use Rattle.lists.proofs.Tests.{leb-not}
 use Rattle.ledger.specs.declared.Version.{Version}
-use Rattle.ledger.specs.Version.{absent, same, ordinary}
-use Rattle.ledger.specs.State.{wrongEntry}
+use Rattle.ledger.specs.Value.{isZero}
+use Rattle.ledger.specs.Version.{ordinary}
+use Rattle.ledger.specs.State.{isGone, wrongEntry}
 
 module _ (n : ℕ) (v : Version) (x : ℤ) where
   -- at an ordinary place the block decides
@@ -20,16 +19,13 @@ module _ (n : ℕ) (v : Version) (x : ℤ) where
       let low = leb-true (v .place) 63 e in
       rw (ne-eqb (v .place) 65535 (λ q. absurd (omega arith)), e, leb-not n (v .block)) (go (eqb (v .block) 0))
     where
-      go : (b : Bool) → not (ltb (v .block) n) ≡ not (b && false && eqb (ofZ w64 x) 0 || true && ltb (v .block) n)
+      go : (b : Bool) → not (ltb (v .block) n) ≡ not (b && false && isZero x || true && ltb (v .block) n)
       go true = refl
       go false = refl
 
-  -- at any other place the version has to be absent, with value 0
-  pub wrong-place : ordinary v ≡ false → same v absent ≡ false → true ≡ wrongEntry n (record { version = v; value = x })
-  wrong-place e f = rw (e, f)
-
-  pub wrong-value : ordinary v ≡ false → same v absent ≡ true → not (eqb (ofZ w64 x) 0) ≡ wrongEntry n (record { version = v; value = x })
-  wrong-value e f = rw (e, f) (go (eqb (ofZ w64 x) 0))
+  -- at any other place the entry has to be absent
+  pub wrong-other : ordinary v ≡ false → not (isGone (record { version = v; value = x })) ≡ wrongEntry n (record { version = v; value = x })
+  wrong-other e = rw e (go (isGone (record { version = v; value = x })))
     where
       go : (b : Bool) → not b ≡ not (b || false)
       go true = refl

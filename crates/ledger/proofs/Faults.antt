@@ -12,7 +12,7 @@ use Rattle.refusals.specs.Outcome.{gives, refuses}
 use Rattle.refusals.specs.Fault.{Fault, clear, fault, first}
 use Rattle.refusals.proofs.Rows.{row-none, row-passed, append-clear, append-fault, append-none, judged-gives, judged-refuses}
 use Rattle.octets.specs.Bytes.{field, weighed, set?}
-use Rattle.ledger.specs.Tx.{Tx, valueTx, padded, readOf, writeOf, readOutOfTurn, writeOutOfTurn, wrongVersion, wrongKind}
+use Rattle.ledger.specs.Tx.{Tx, valueTx, padded, readOf, writeOf, outOfTurn, wrongVersion, wrongKind}
 use Rattle.ledger.specs.Page.{readCount, writeCount, size, countRows, entryRows, headRows, lengthRow, spareRow, wholeRows, pageRows, pageFault, pageTx, pageOf, placed, Counted}
 use Rattle.ledger.specs.declared.Transaction.{Transaction}
 use Rattle.ledger.specs.Services.{Counts, checkPage, readPage, indexRow, writeRows, writeFault, writePage}
@@ -113,21 +113,15 @@ module _ (bad : ℕ → Bool) (to n x : ℕ) (count : n ≡ to) where
   pub none-of : x ≡ firstIn bad 0 to → n ≤ x → someIn bad 0 to ≡ false
   none-of found h = none bad 0 to x found (rw count at h)
 
-  pub some-in : x ≡ firstIn bad 0 n → x < n → someIn bad 0 to ≡ true
-  some-in found = some-of (rw count at found)
-
-  pub none-in : x ≡ firstIn bad 0 n → n ≤ x → someIn bad 0 to ≡ false
-  none-in found = none-of (rw count at found)
-
 module _ (x : Tx) where
   abbrev pub six : Bool
-  six = someIn (readOutOfTurn (x .reads)) 0 (length (x .reads))
+  six = someIn (outOfTurn (λ i. readOf (x .reads) i .key)) 0 (length (x .reads))
 
   abbrev pub seven : Bool
   seven = someIn (λ i. wrongVersion (readOf (x .reads) i .version)) 0 (length (x .reads))
 
   abbrev pub eight : Bool
-  eight = someIn (writeOutOfTurn (x .writes)) 0 (length (x .writes))
+  eight = someIn (outOfTurn (λ i. writeOf (x .writes) i .key)) 0 (length (x .writes))
 
   abbrev pub nine : Bool
   nine = someIn (λ i. wrongKind (writeOf (x .writes) i)) 0 (length (x .writes))
@@ -249,6 +243,6 @@ module _ (batch : List ℕ) (index : ℕ) (t : Transaction) where
   unfolding writePage
   write-refused n q e = rw e
 
-  pub write-done : wrong ≡ clear → record { answer = gives tt; batch = placed batch index (pageOf (valueTx t)) } ≡ writePage batch index t
+  pub write-done : wrong ≡ clear → record { answer = gives 0; batch = placed batch index (pageOf (valueTx t)) } ≡ writePage batch index t
   unfolding writePage
   write-done e = rw e

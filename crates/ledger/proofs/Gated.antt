@@ -2,28 +2,18 @@
 use mathlib.Core.Path.{_≡_, refl, sym, ap, _∙_}
 use mathlib.Core.Bool.{Bool, true, false, not, _||_, _&&_}
 use mathlib.Core.List.{List, [], _∷_, _++_}
-use Prim.Native.Nat.{ℕ, _+_, _-_, _*_, _%_, _≤_, _<_}
-use native.Mathlib.Nat.{add-sub-cancel-left}
+use Prim.Native.Nat.{ℕ, _+_, _*_, _%_, _≤_, _<_}
 use native.Mathlib.Omega.{arith}
-use lib.ListN.{length, take, drop, length-take, length-drop}
+use lib.ListN.{length, length-take, length-drop}
 use lib.Dec.{eqb, ltb, leb}
 use borrow.Author.Tests.{ltb-true, ltb-false, leb-true, eqb-true, eqb-false, not-false, lt-ltb, le-ltb, eq-eqb, ne-eqb}
 use Rattle.lists.proofs.Searches.{missed}
-use Rattle.refusals.specs.Fault.{Fault, clear, fault, Row, row, first, inTurn, eachRow, moved, movedFault, judged}
-use Rattle.refusals.proofs.Rows.{row-there, row-passed, row-none, append-clear, append-fault, append-none, each-none, test-none, first-moved, moved-none}
+use Rattle.refusals.specs.Fault.{clear, fault, Row, row, first, inTurn, eachRow, movedFault}
+use Rattle.refusals.proofs.Rows.{row-there, row-passed, row-none, append-clear, append-fault, append-none, each-none, one-clear, test-none, first-moved, moved-none}
 use Rattle.ledger.specs.Page.{wholeRows, pageFault, pageAt}
 use Rattle.ledger.specs.State.{State, Level, keys, entry, wrongEntry, wrongLengths, stateRows}
-use Rattle.ledger.specs.Gate.{pages, txAt, again, beyond, rowsAt, pagesRows, bytesRow, gateRows, gateFault, gate, Ready, Batch}
+use Rattle.ledger.specs.Gate.{pages, txAt, again, beyond, rowsAt, pagesRows, bytesRow, frontRows, gateRows, gateFault, Ready, Batch}
 use Rattle.ledger.proofs.Faults.{or-none, and-both, whole-good, whole-bad, good-whole}
-
--- ---- pages of a batch
-
--- the part of a batch that is lent as page i
-pub lent : (batch : List ℕ) (i : ℕ) → take (i * 512 + 512 - i * 512) (drop (i * 512) batch) ≡ pageAt batch i
-lent batch i = rw (add-sub-cancel-left (i * 512) 512)
-
-pub lent-ready : (batch : List ℕ) (i k l : ℕ) → l ≡ k → Ready k (pageAt batch i) → Ready l (take (i * 512 + 512 - i * 512) (drop (i * 512) batch))
-lent-ready batch i k l e r = rw (lent batch i, e) r
 
 -- ---- the rows of a page of a batch
 
@@ -68,11 +58,7 @@ module _ (batch : List ℕ) (k : ℕ) where
   unfolding pagesRows
   pages-rest e f = append-clear ownRows (ticketRows ++ keyRows) e ∙ append-clear ticketRows keyRows f
 
-  -- as the answer for the pages
-  pub pages-is : {f : Fault} → first (pagesRows batch k) ≡ f → judged f (pages batch) ≡ judged (first (pagesRows batch k)) (pages batch)
-  pages-is e = ap (λ x. judged x (pages batch)) (sym e)
-
--- ---- the table of a batch: 11, then 12 and 13, then 14, then the pages
+-- ---- the table of the front: 11, then 12 and 13
 
 abbrev pub wrongBytes : List ℕ → Bool
 wrongBytes batch = ltb 32768 (length batch) || not (eqb (length batch % 512) 0)
@@ -99,29 +85,32 @@ module _ (s : State) (n : ℕ) where
   unfolding stateRows
   state-rest e = row-passed _ _ e
 
-module _ (short : Bool) (batch : List ℕ) (s : State) (n : ℕ) where
-  pub gate-eleven : wrongBytes batch ≡ true → gateFault short batch s n ≡ fault 11 0
+module _ (batch : List ℕ) (s : State) (n : ℕ) where
+  pub front-bytes : {a b : ℕ} → first (bytesRow batch ∷ []) ≡ fault a b → first (frontRows batch s n) ≡ fault a b
+  unfolding frontRows
+  front-bytes e = append-fault (bytesRow batch ∷ []) (stateRows s n) e
+
+  pub front-state : first (bytesRow batch ∷ []) ≡ clear → first (frontRows batch s n) ≡ first (stateRows s n)
+  unfolding frontRows
+  front-state e = append-clear (bytesRow batch ∷ []) (stateRows s n) e
+
+  pub front-clear : wrongBytes batch ≡ false → first (stateRows s n) ≡ clear → first (frontRows batch s n) ≡ clear
+  front-clear e f = front-state (one-clear 11 0 (wrongBytes batch) e) ∙ f
+
+-- ---- the table of a batch: the front, a service's own rows, the pages
+
+module _ (own : List Row) (batch : List ℕ) (s : State) (n : ℕ) where
+  pub gate-front : {a b : ℕ} → first (frontRows batch s n) ≡ fault a b → gateFault own batch s n ≡ fault a b
   unfolding gateRows
-  gate-eleven e = row-there _ _ e
+  gate-front e = append-fault (frontRows batch s n) _ e
 
-  pub gate-state : {a b : ℕ} → wrongBytes batch ≡ false → first (stateRows s n) ≡ fault a b → gateFault short batch s n ≡ fault a b
+  pub gate-own : {a b : ℕ} → first (frontRows batch s n) ≡ clear → first own ≡ fault a b → gateFault own batch s n ≡ fault a b
   unfolding gateRows
-  gate-state e f = row-passed _ _ e ∙ append-fault (stateRows s n) _ f
+  gate-own e f = append-clear (frontRows batch s n) _ e ∙ append-fault own _ f
 
-  pub gate-rest : wrongBytes batch ≡ false → first (stateRows s n) ≡ clear → gateFault short batch s n ≡ first (row 14 0 short ∷ pagesRows batch (keys s))
+  pub gate-pages : first (frontRows batch s n) ≡ clear → first own ≡ clear → gateFault own batch s n ≡ first (pagesRows batch (keys s))
   unfolding gateRows
-  gate-rest e f = row-passed _ _ e ∙ append-clear (stateRows s n) _ f
-
-  pub gate-fourteen : wrongBytes batch ≡ false → first (stateRows s n) ≡ clear → short ≡ true → gateFault short batch s n ≡ fault 14 0
-  gate-fourteen e f h = gate-rest e f ∙ row-there _ _ h
-
-  pub gate-pages : wrongBytes batch ≡ false → first (stateRows s n) ≡ clear → short ≡ false → gateFault short batch s n ≡ first (pagesRows batch (keys s))
-  gate-pages e f h = gate-rest e f ∙ row-passed _ _ h
-
-  -- as the gate's answer
-  pub gate-is : {f : Fault} → gateFault short batch s n ≡ f → judged f (pages batch) ≡ gate short batch s n
-  unfolding gate
-  gate-is e = ap (λ x. judged x (pages batch)) (sym e)
+  gate-pages e f = append-clear (frontRows batch s n) _ e ∙ append-clear own _ f
 
 -- ---- what the gate lets through
 
@@ -172,8 +161,7 @@ sorted batch k l e =
     }
 
 -- a batch, a state and a number that may be planned and committed
-pub record Through (short : Bool) (batch : List ℕ) (s : State) (n : ℕ) : Type 0 where
-  pub long : short ≡ false
+pub record Through (batch : List ℕ) (s : State) (n : ℕ) : Type 0 where
   pub level : Level (s .blocks) (s .places) (s .values)
   pub some : 0 < keys s
   pub few : keys s ≤ 1024
@@ -181,18 +169,27 @@ pub record Through (short : Bool) (batch : List ℕ) (s : State) (n : ℕ) : Typ
   pub entries : (k : ℕ) → k < keys s → wrongEntry n (entry s k) ≡ false
   pub differ : (i j : ℕ) → j < i → i < pages batch → txAt batch j .ticket ≡ txAt batch i .ticket → ⊥
 
-pub gate-open : (short : Bool) (batch : List ℕ) (s : State) (n : ℕ) → gateFault short batch s n ≡ clear → Through short batch s n
-unfolding gateRows stateRows
-gate-open short batch s n e =
-    let a = row-none (bytesRow batch) _ e in
-    let b = append-none (stateRows s n) (row 14 0 short ∷ pagesRows batch (keys s)) (a .1) in
-    let c = row-none (row 12 0 (wrongLengths s)) (entriesRows s n) (b .0) in
-    let d = row-none (row 14 0 short) (pagesRows batch (keys s)) (b .1) in
-    let w = whole batch (a .0) in
-    let z = sized s (c .0) in
-    let p = sorted batch (keys s) (omega (arith, w .0)) (d .1) in
+-- what the front says alone
+pub front-whole : (batch : List ℕ) (s : State) (n : ℕ) → first (frontRows batch s n) ≡ clear → (length batch ≡ pages batch * 512) × (pages batch ≤ 64)
+unfolding frontRows
+front-whole batch s n e = whole batch (row-none (bytesRow batch) _ e .0)
+
+pub front-sized : (batch : List ℕ) (s : State) (n : ℕ) → first (frontRows batch s n) ≡ clear → Sized s
+unfolding frontRows stateRows
+front-sized batch s n e = sized s (row-none (row 12 0 (wrongLengths s)) (entriesRows s n) (row-none (bytesRow batch) _ e .1) .0)
+
+pub front-good : (batch : List ℕ) (s : State) (n : ℕ) → first (frontRows batch s n) ≡ clear → first (stateRows s n) ≡ clear
+unfolding frontRows
+front-good batch s n e = row-none (bytesRow batch) _ e .1
+
+pub through : (batch : List ℕ) (s : State) (n : ℕ) → first (frontRows batch s n) ≡ clear → first (pagesRows batch (keys s)) ≡ clear → Through batch s n
+unfolding frontRows stateRows
+through batch s n e f =
+    let w = front-whole batch s n e in
+    let z = front-sized batch s n e in
+    let p = sorted batch (keys s) (omega (arith, w .0)) f in
+    let c = row-none (row 12 0 (wrongLengths s)) (entriesRows s n) (row-none (bytesRow batch) _ e .1) in
     record {
-      long = d .0;
       level = z .level;
       some = z .some;
       few = z .few;
@@ -200,3 +197,16 @@ gate-open short batch s n e =
       entries = test-none 13 (keys s) (λ k. wrongEntry n (entry s k)) (c .1);
       differ = p .differ;
     }
+
+module _ (own : List Row) (batch : List ℕ) (s : State) (n : ℕ) (e : gateFault own batch s n ≡ clear) where
+  pub open-front : first (frontRows batch s n) ≡ clear
+  unfolding gateRows
+  open-front = append-none (frontRows batch s n) _ e .0
+
+  pub open-own : first own ≡ clear
+  unfolding gateRows
+  open-own = append-none own _ (append-none (frontRows batch s n) _ e .1) .0
+
+  pub gate-open : Through batch s n
+  unfolding gateRows
+  gate-open = through batch s n open-front (append-none own _ (append-none (frontRows batch s n) _ e .1) .1)

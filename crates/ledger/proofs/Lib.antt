@@ -1,4 +1,5 @@
 pub mod Turns
+pub mod Owned
 pub mod OnPage
 pub mod Stored
 pub mod Laid
@@ -10,6 +11,7 @@ pub mod Noticed
 pub mod Back
 pub mod Pages
 pub mod Rising
+pub mod Zero
 pub mod Entries
 pub mod Gated
 pub mod Tickets

@@ -3,7 +3,6 @@ use mathlib.Core.Path.{_≡_, sym, ap, _∙_}
 use mathlib.Core.List.{List, _++_, append-assoc}
 use Prim.Native.Nat.{ℕ, _+_, _-_, _*_, _≤_, _<_}
 use native.Mathlib.Nat.{add-sub-cancel-left}
-use native.Mathlib.Decide.{decLt}
 use native.Mathlib.Omega.{arith}
 use lib.ListN.{length, getD, take, drop, length-append, length-take, length-drop, List·getD-append}
 use lib.Seq.{drop-drop, drop-at, take-at, length-take-le, getD-take, getD-drop, getD-append-add, ext-getD}
@@ -48,14 +47,3 @@ module _ (batch page : List ℕ) (i : ℕ) (long : length page ≡ 512) (inside 
   placed-after k h =
       rw (← append-assoc (take (i * 512) batch) page (drop (i * 512 + 512) batch))
       (getD-past (take (i * 512) batch ++ page) batch (i * 512 + 512) k (simp (length-append, before, long)) h)
-
-  -- so does every other page
-  pub placed-other : (j : ℕ) → (j ≡ i → ⊥) → pageAt (placed batch i page) j ≡ pageAt batch j
-  placed-other j h =
-      let n : length (pageAt (placed batch i page) j) ≡ length (pageAt batch j) = simp (length-take, length-drop, placed-long) in
-      ext-getD 0 _ _ n (λ k l.
-      let m : k < 512 = omega (arith, simp (length-take, length-drop) at l) in
-      getD-take 512 (drop (j * 512) (placed batch i page)) k 0 m
-      ∙ getD-drop (j * 512) (placed batch i page) k 0
-      ∙ elim (decLt j i) [ yes s ↦ placed-before (j * 512 + k) (omega arith) | no g ↦ placed-after (j * 512 + k) (omega arith) ]
-      ∙ sym (getD-take 512 (drop (j * 512) batch) k 0 m ∙ getD-drop (j * 512) batch k 0))

@@ -11,12 +11,11 @@ use lib.Dec.{ltb}
 use borrow.Author.Tests.{ltb-true, ltb-false, lt-ltb, le-ltb, not-false}
 use Rattle.lists.specs.Search.{someIn}
 use Rattle.lists.proofs.Searches.{missed, none-at, some-at, any-search}
-use Rattle.ledger.specs.Tx.{Tx, noRead, noWrite, readOf, writeOf, floorOf}
+use Rattle.ledger.specs.Tx.{Tx, noRead, noWrite, readOf, writeOf, floorOf, outOfTurn}
 use Rattle.refusals.specs.Fault.{clear, first}
 use Rattle.refusals.proofs.Rows.{row-none}
 use Rattle.ledger.specs.Page.{entryRows, pageFault, pageTx}
 use Rattle.ledger.specs.Gate.{beyond}
-use Rattle.ledger.proofs.Turns.{outOfTurn}
 use Rattle.ledger.proofs.Faults.{or-none, six, seven, eight, nine, sound}
 
 -- ---- keys of which none is out of turn

@@ -1,30 +1,31 @@
 -- Keys in turn: what a loop keeps that looks for the first key out of turn. Assumes nothing.
 use mathlib.Core.Path.{_≡_, refl, sym, ap, ap₂, _∙_}
-use mathlib.Core.Bool.{Bool, true, false, _||_, true≢false}
-use Prim.Native.Nat.{ℕ, _+_, _≤_, _<_}
+use mathlib.Core.Bool.{Bool, true, false}
+use Prim.Native.Nat.{ℕ, zero, suc, _+_, _*_, _≤_, _<_}
+use native.Mathlib.Nat.{le-refl, mul-suc, mul-le-mul}
 use native.Mathlib.Numerals.{add-one}
 use native.Mathlib.Omega.{arith}
-use lib.Dec.{ltb}
-use borrow.Author.Tests.{ltb-false}
 use Rattle.lists.specs.Search.{firstIn}
+use Rattle.lists.proofs.Searches.{first-same}
 use Rattle.lists.proofs.Loops.{Unfound, begins, found, passes}
-use Rattle.ledger.specs.Tx.{floorOf, wrongKey}
-
-or-false-right : (a b : Bool) → (a || b) ≡ false → b ≡ false
-or-false-right true b e = absurd (true≢false e)
-or-false-right false b e = e
-
--- a key that is not wrong is at most 1023
-pub key-small : (floor key : ℕ) → wrongKey floor key ≡ false → key ≤ 1023
-key-small floor key e = ltb-false 1023 key (or-false-right (ltb key floor) (ltb 1023 key) e)
+use Rattle.ledger.specs.Tx.{floorOf, wrongKey, outOfTurn}
 
 pub floor-next : (key : ℕ → ℕ) (i : ℕ) → floorOf key (i + 1) ≡ key i + 1
 unfolding floorOf
 floor-next key i = ap (floorOf key) (add-one i)
 
--- key i does not rise, or is above 1023
-abbrev pub outOfTurn : (ℕ → ℕ) → ℕ → Bool
-outOfTurn key i = wrongKey (floorOf key i) (key i)
+-- two runs of keys that agree have the same first key out of turn
+pub turns-same : (f g : ℕ → ℕ) (n : ℕ) → ((j : ℕ) → j < n → f j ≡ g j) → firstIn (outOfTurn f) 0 n ≡ firstIn (outOfTurn g) 0 n
+unfolding floorOf
+turns-same f g n h = first-same (outOfTurn f) (outOfTurn g) n (λ j l. ap₂ wrongKey (floors j l) (h j l))
+  where
+    floors : (j : ℕ) → j < n → floorOf f j ≡ floorOf g j
+    floors zero l = refl
+    floors (suc j) l = ap (λ x. x + 1) (h j (omega arith))
+
+-- the first two bytes of an entry are within its run
+pub key-within : (step i n : ℕ) → 2 ≤ step → i < n → step * i + 2 ≤ step * n
+key-within step i n h l = omega (arith, mul-le-mul (le-refl step) l, mul-suc step i)
 
 -- no key before i is out of turn, and floor is the least that may stand at i
 pub record Turned (key : ℕ → ℕ) (n floor i : ℕ) : Type 0 where

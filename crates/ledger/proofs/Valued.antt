@@ -1,15 +1,14 @@
 -- The transaction that a value of the program holds within its counts. Assumes nothing.
-use mathlib.Core.Path.{_≡_, sym, ap, ap₂, _∙_}
-use mathlib.Core.List.{List, _++_, map}
+use mathlib.Core.Path.{_≡_, sym, ap, ap₂}
+use mathlib.Core.List.{List, _++_}
 use Prim.Native.Nat.{ℕ, _-_, _≤_, _<_}
-use lib.ListN.{length, replicate, length-map}
+use lib.ListN.{length, replicate}
 use lib.Seq.{getD-take, length-take-le, take-append-seam}
 use Rattle.ledger.specs.declared.Transaction.{Transaction}
-use Rattle.octets.specs.Bytes.{le, weighed}
 use Rattle.ledger.specs.Tx.{Tx, padded, noRead, noWrite, readOf, writeOf, valueTx}
-use Rattle.ledger.specs.Page.{size, headBytes, readBytes, writeBytes, bodyOf, pageOf}
+use Rattle.ledger.specs.Page.{headBytes, readBytes, writeBytes, laidOf}
 use Rattle.lists.proofs.Tables.{flat-same}
-use Rattle.ledger.proofs.Laid.{body, whole}
+use Rattle.ledger.proofs.Laid.{upToSpare}
 
 -- an entry below the count
 pub read-of : (t : Transaction) (i : ℕ) → i < t .r → readOf (valueTx t .reads) i ≡ readOf (t .reads) i
@@ -36,21 +35,13 @@ module _ (t : Transaction) (has-reads : t .r ≤ length (t .reads)) (has-writes 
   abbrev writes-of : ℕ → List ℕ
   writes-of i = writeBytes (writeOf (t .writes) i)
 
-  pub body-value : body (t .r) (t .w) (t .ticket) reads-of writes-of ≡ bodyOf (valueTx t)
-  unfolding bodyOf valueTx
-  body-value =
+  pub laid-value : upToSpare (t .r) (t .w) (t .ticket) reads-of writes-of ≡ laidOf (valueTx t)
+  unfolding valueTx
+  laid-value =
       rw (reads-many, writes-many)
-      (ap₂ (λ a b. headBytes (t .r) (t .w) (t .ticket) ++ a ++ b ++ replicate (500 - size (t .r) (t .w)) 0)
+      (ap₂ (λ a b. headBytes (t .r) (t .w) (t .ticket) ++ a ++ b)
       (flat-same _ _ (t .r) (λ i h. ap readBytes (sym (read-of t i h))))
       (flat-same _ _ (t .w) (λ i h. ap writeBytes (sym (write-of t i h)))))
-
-  pub page-value : whole (t .r) (t .w) (t .ticket) reads-of writes-of ≡ pageOf (valueTx t)
-  unfolding pageOf
-  page-value = ap (λ (b : List ℕ). b ++ le 4 (weighed b 508)) body-value
-
--- an array of the program has its type's length
-pub sized : {X D : Type 0} (to : X → D) (xs : List X) (n : ℕ) → length (map to xs) ≡ n → length xs ≡ n
-sized to xs n e = sym (length-map xs to) ∙ e
 
 -- ---- up to the entries beyond the counts
 
@@ -61,7 +52,3 @@ value-padded x = λ i. record {
   reads = take-append-seam (x .reads) (replicate (32 - length (x .reads)) noRead) i;
   writes = take-append-seam (x .writes) (replicate (32 - length (x .writes)) noWrite) i;
 }
-
--- zeros beyond the counts keep what the counts see
-pub padded-value : (t : Transaction) → valueTx (padded (valueTx t)) ≡ valueTx t
-padded-value t = value-padded (valueTx t)

@@ -2,44 +2,51 @@
 use Prim.Native.Nat.{ℕ, suc}
 use mathlib.Core.Bool.{Bool}
 use mathlib.Core.List.{List, [], _∷_, _++_}
+use mathlib.Core.Path.{_≡_}
 use lib.ListN.{length, drop}
 use lib.Dec.{eqb, ltb}
 use Rattle.lists.specs.Choice.{pick}
 use Rattle.lists.specs.Members.{all, those}
-use Rattle.refusals.specs.Outcome.{Outcome, gives, refuses}
-use Rattle.refusals.specs.Fault.{clear, fault}
+use Rattle.refusals.specs.declared.Answer.{Answer}
+use Rattle.refusals.specs.Outcome.{Outcome, outcome}
+use Rattle.refusals.specs.Fault.{Row, first, judged, after}
+use Rattle.ledger.specs.declared.Version.{Version}
 use Rattle.ledger.specs.declared.Read.{Read}
 use Rattle.ledger.specs.declared.Write.{Write}
-use Rattle.ledger.specs.declared.Committed.{Committed}
-use Rattle.ledger.specs.declared.Committed.the-variants.{Passed, Uncommitted}
+use Rattle.ledger.specs.declared.Entry.{Entry}
+use Rattle.ledger.specs.declared.Stamp.{Stamp}
 use Rattle.ledger.specs.Version.{at, same}
 use Rattle.ledger.specs.Tx.{Tx}
-use Rattle.ledger.specs.State.{State, Entry, gone, entry, store}
-use Rattle.ledger.specs.Gate.{pages, txs, gateFault}
+use Rattle.ledger.specs.State.{State, gone, versions, store}
+use Rattle.ledger.specs.Gate.{pages, txs, lentRow, gateRows}
 
--- a read "names the version that its key has"
-abbrev pub names : State → Read → Bool
-names s r = same (r .version) (entry s (r .key) .version)
+-- a read "names the version that its key has": `held` tells the version of each key
+abbrev pub names : (ℕ → Version) → Read → Bool
+names held r = same (r .version) (held (r .key))
 
 -- "A page passes when each of its reads names the version that its key has now"
-unfoldable pub passes : State → Tx → Bool
-passes s x = all (names s) (x .reads)
+unfoldable pub passes : (ℕ → Version) → Tx → Bool
+passes held x = all (names held) (x .reads)
+
+-- (n, i), what a page's writes are marked with
+abbrev pub stamp : ℕ → ℕ → Stamp
+stamp n i = record { number = n; place = i }
 
 -- "Its puts set value and version (n, i), also where the value is unchanged. Its deletes make the key absent"
-abbrev pub left : ℕ → ℕ → Write → Entry
-left n i w = pick (eqb (w .kind) 0) (record { version = at n i; value = w .value }) gone
+abbrev pub left : Stamp → Write → Entry
+left t w = pick (eqb (w .kind) 0) (record { version = at (t .number) (t .place); value = w .value }) gone
 
-unfoldable pub write : ℕ → ℕ → State → List Write → State
-write n i s [] = s
-write n i s (w ∷ ws) = write n i (store s (w .key) (left n i w)) ws
+unfoldable pub write : Stamp → State → List Write → State
+write t s [] = s
+write t s (w ∷ ws) = write t (store s (w .key) (left t w)) ws
 
 -- "A page that fails .. changes nothing"
 unfoldable pub afterPage : ℕ → ℕ → State → Tx → State
-afterPage n i s x = pick (passes s x) (write n i s (x .writes)) s
+afterPage n i s x = pick (passes (versions s) x) (write (stamp n i) s (x .writes)) s
 
 -- "A passing page gets verdict 0." "A page that fails gets verdict 3"
 abbrev pub verdict : State → Tx → ℕ
-verdict s x = pick (passes s x) 0 3
+verdict s x = pick (passes (versions s) x) 0 3
 
 -- "Take the pages in batch order, the page at index i as place i": the state after them, from place i on
 unfoldable pub commit : ℕ → ℕ → State → List Tx → State
@@ -55,6 +62,12 @@ verdicts n i s (x ∷ xs) = verdict s x ∷ verdicts n (suc i) (afterPage n i s 
 unfoldable pub passed : List ℕ → ℕ
 passed vs = length (those (eqb 0) vs)
 
+-- what committing the pages of a batch leaves: the count of those that pass, the state, and the verdicts in front of the lent ones
+pub record Commitment (batch : List ℕ) (s : State) (n : ℕ) (vs : List ℕ) (count : ℕ) (new : State) (filled : List ℕ) : Type 0 where
+  pub count-is : count ≡ passed (verdicts n 0 s (txs batch))
+  pub state-is : new ≡ commit n 0 s (txs batch)
+  pub verdicts-are : filled ≡ verdicts n 0 s (txs batch) ++ drop (pages batch) vs
+
 -- ---- the service
 
 -- the outcome, and what was lent at the end
@@ -63,22 +76,22 @@ pub record Commits : Type 0 where
   pub state : State
   pub verdicts : List ℕ
 
--- what a commit does to a batch that the gate lets through: "Each commit fills m verdicts and the state"
-unfoldable pub commits : List ℕ → State → ℕ → List ℕ → Commits
-commits batch s n vs =
-    let new = verdicts n 0 s (txs batch) in
-    record { answer = gives (passed new); state = commit n 0 s (txs batch); verdicts = new ++ drop (pages batch) vs }
-
--- "Any refusal returns its number and a place, and leaves all lent lists and bytes unchanged."
 -- "Commit is lent only verdicts for 14"
+abbrev pub commitRows : List ℕ → State → ℕ → List ℕ → List Row
+commitRows batch s n vs = gateRows (lentRow (ltb (length vs) (pages batch)) ∷ []) batch s n
+
+-- "Each commit fills m verdicts and the state, and its result is the number of passing pages."
+-- "Any refusal returns its number and a place, and leaves all lent lists and bytes unchanged."
 unfoldable pub commitBatch : List ℕ → State → ℕ → List ℕ → Commits
 commitBatch batch s n vs =
-    elim (gateFault (ltb (length vs) (pages batch)) batch s n) [
-      | clear ↦ commits batch s n vs
-      | fault number place ↦ record { answer = refuses number place; state = s; verdicts = vs }
-    ]
+    let wrong = first (commitRows batch s n vs) in
+    let new = verdicts n 0 s (txs batch) in
+    record {
+      answer = judged wrong (passed new);
+      state = after wrong (commit n 0 s (txs batch)) s;
+      verdicts = after wrong (new ++ drop (pages batch) vs) vs;
+    }
 
--- the answer of commit, with what was lent as it is at the end
-abbrev pub committed : Committed → State → List ℕ → Commits
-committed (Passed k) s vs = record { answer = gives k; state = s; verdicts = vs }
-committed (Uncommitted r) s vs = record { answer = refuses (r .number) (r .place); state = s; verdicts = vs }
+-- the answer of commit as an outcome, with what was lent as it is at the end
+abbrev pub committed : Answer → State → List ℕ → Commits
+committed a s vs = record { answer = outcome a; state = s; verdicts = vs }

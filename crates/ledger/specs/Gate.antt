@@ -1,16 +1,13 @@
--- Document 01, refusals 11 to 16: the one gate of a batch. Assumes nothing.
+-- Document 01, refusals 11 to 16: the gate of a batch, stage by stage. Assumes nothing.
 use Prim.Native.Nat.{ℕ, _*_, _/_, _%_, _≤_, _<_}
 use mathlib.Core.Bool.{Bool, false, not, _||_}
 use mathlib.Core.List.{List, [], _∷_, _++_}
 use mathlib.Core.Path.{_≡_}
-use lib.ListN.{length}
+use lib.ListN.{length, getD}
 use lib.Dec.{eqb, ltb}
 use Rattle.lists.specs.Search.{someIn}
 use Rattle.lists.specs.Members.{any}
-use Rattle.refusals.specs.Outcome.{Outcome, gives, refuses}
-use Rattle.refusals.specs.Fault.{Fault, clear, Row, row, first, inTurn, eachRow, moved, judged}
-use Rattle.ledger.specs.declared.Gate.{Gate}
-use Rattle.ledger.specs.declared.Gate.the-variants.{Open, Shut}
+use Rattle.refusals.specs.Fault.{Fault, clear, Row, row, first, inTurn, eachRow, moved}
 use Rattle.lists.specs.Tables.{tab}
 use Rattle.ledger.specs.Tx.{Tx}
 use Rattle.ledger.specs.Page.{pageTx, wholeRows, pageFault, pageAt}
@@ -34,7 +31,19 @@ again batch i = someIn (λ j. eqb (txAt batch j .ticket) (txAt batch i .ticket))
 abbrev pub beyond : ℕ → Tx → Bool
 beyond k x = any (λ r. not (ltb (r .key) k)) (x .reads) || any (λ w. not (ltb (w .key) k)) (x .writes)
 
--- ---- the table of a batch, in turn
+-- ---- the tables of the stages
+
+-- "11: batch over 32768 bytes or no multiple of 512"
+abbrev pub bytesRow : List ℕ → Row
+bytesRow batch = row 11 0 (ltb 32768 (length batch) || not (eqb (length batch % 512) 0))
+
+-- "11, 12, 13": the length of the batch, then the state
+unfoldable pub frontRows : List ℕ → State → ℕ → List Row
+frontRows batch s n = bytesRow batch ∷ stateRows s n
+
+-- 14: whether a list that a service is lent is too short is told
+abbrev pub lentRow : Bool → Row
+lentRow short = row 14 0 short
 
 -- "the lowest bad page with its first number of 2 to 10": the rows of page i, with the page as their place
 abbrev pub rowsAt : List ℕ → ℕ → List Row
@@ -47,26 +56,13 @@ pagesRows batch k =
     ++ (eachRow 15 (pages batch) (again batch)
     ++ eachRow 16 (pages batch) (λ i. beyond k (txAt batch i)))
 
--- "11: batch over 32768 bytes or no multiple of 512"
-abbrev pub bytesRow : List ℕ → Row
-bytesRow batch = row 11 0 (ltb 32768 (length batch) || not (eqb (length batch % 512) 0))
-
 -- "Plan and commit: 11, 12, 13, 14, then the lowest bad page with its first number of 2 to 10, then 15, then 16";
--- what 14 asks is told by `short`
-unfoldable pub gateRows : Bool → List ℕ → State → ℕ → List Row
-gateRows short batch s n = bytesRow batch ∷ (stateRows s n ++ (row 14 0 short ∷ pagesRows batch (keys s)))
+-- what a service asks of its own between 13 and the pages is told
+unfoldable pub gateRows : List Row → List ℕ → State → ℕ → List Row
+gateRows own batch s n = frontRows batch s n ++ (own ++ pagesRows batch (keys s))
 
-abbrev pub gateFault : Bool → List ℕ → State → ℕ → Fault
-gateFault short batch s n = first (gateRows short batch s n)
-
--- the number of pages of a batch that is let through, or the refusal
-unfoldable pub gate : Bool → List ℕ → State → ℕ → Outcome ℕ
-gate short batch s n = judged (gateFault short batch s n) (pages batch)
-
--- the answer of the gate as an outcome
-abbrev pub gated : Gate → Outcome ℕ
-gated (Open m) = gives m
-gated (Shut r) = refuses (r .number) (r .place)
+abbrev pub gateFault : List Row → List ℕ → State → ℕ → Fault
+gateFault own batch s n = first (gateRows own batch s n)
 
 -- ---- what the gate lets through
 
@@ -80,3 +76,7 @@ pub record Batch (k : ℕ) (batch : List ℕ) (m : ℕ) : Type 0 where
   pub whole : length batch ≡ m * 512
   pub few : m ≤ 64
   pub each : (i : ℕ) → i < m → Ready k (pageAt batch i)
+
+-- the tickets of the first m pages
+pub record TicketsOf (batch : List ℕ) (m : ℕ) (ts : List ℕ) : Type 0 where
+  pub each : (i : ℕ) → i < m → getD ts i 0 ≡ txAt batch i .ticket

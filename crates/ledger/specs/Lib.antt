@@ -1,3 +1,4 @@
+pub mod Value
 pub mod Version
 pub mod Tx
 pub mod Page

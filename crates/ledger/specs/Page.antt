@@ -13,7 +13,7 @@ use Rattle.ledger.specs.declared.Read.{Read}
 use Rattle.ledger.specs.declared.Write.{Write}
 use Rattle.lists.specs.Tables.{tab, flat}
 use Rattle.octets.specs.Bytes.{field, le, weighed, set?}
-use Rattle.ledger.specs.Tx.{Tx, readOf, writeOf, readOutOfTurn, writeOutOfTurn, wrongVersion, wrongKind}
+use Rattle.ledger.specs.Tx.{Tx, readOf, writeOf, outOfTurn, wrongVersion, wrongKind}
 
 -- "1, 2: number of reads r, of writes w"
 abbrev pub readCount : List ℕ → ℕ
@@ -36,6 +36,10 @@ readAt p at = record { key = field p at 2; version = record { block = field p (a
 abbrev pub writeAt : List ℕ → ℕ → Write
 writeAt p at = record { key = field p at 2; kind = field p (at + 2) 2; value = toZ w64 (field p (at + 4) 8) }
 
+-- the key of the i-th of entries that start at `from`, `step` bytes apart: "key 2" stands first in a read and in a write
+abbrev pub keyAt : List ℕ → ℕ → ℕ → ℕ → ℕ
+keyAt p from step i = field p (from + step * i) 2
+
 -- "4 to 7: ticket"; "8 on: r reads"; "then: w writes"
 unfoldable pub pageTx : List ℕ → Tx
 pageTx p = record {
@@ -56,13 +60,16 @@ writeBytes x = le 2 (x .key) ++ le 2 (x .kind) ++ le 8 (ofZ w64 (x .value))
 abbrev pub headBytes : ℕ → ℕ → ℕ → List ℕ
 headBytes r w ticket = (0x54 ∷ r ∷ w ∷ 0 ∷ []) ++ le 4 ticket
 
--- bytes 0 to 507: the head, the reads, the writes, and "up to 507: zero"
-unfoldable pub bodyOf : Tx → List ℕ
-bodyOf x =
+-- the head, the reads and the writes
+abbrev pub laidOf : Tx → List ℕ
+laidOf x =
     headBytes (length (x .reads)) (length (x .writes)) (x .ticket)
     ++ flat (length (x .reads)) (λ i. readBytes (readOf (x .reads) i))
     ++ flat (length (x .writes)) (λ i. writeBytes (writeOf (x .writes) i))
-    ++ replicate (500 - size (length (x .reads)) (length (x .writes))) 0
+
+-- bytes 0 to 507: these, and "up to 507: zero"
+unfoldable pub bodyOf : Tx → List ℕ
+bodyOf x = laidOf x ++ replicate (500 - size (length (x .reads)) (length (x .writes))) 0
 
 -- "508 to 511: check"
 unfoldable pub pageOf : Tx → List ℕ
@@ -81,9 +88,9 @@ countRows r w =
 -- "9: kind neither 0 nor 1, or delete with value"
 unfoldable pub entryRows : Tx → List Row
 entryRows x =
-    row 6 0 (someIn (readOutOfTurn (x .reads)) 0 (length (x .reads))) ∷
+    row 6 0 (someIn (outOfTurn (λ i. readOf (x .reads) i .key)) 0 (length (x .reads))) ∷
     row 7 0 (someIn (λ i. wrongVersion (readOf (x .reads) i .version)) 0 (length (x .reads))) ∷
-    row 8 0 (someIn (writeOutOfTurn (x .writes)) 0 (length (x .writes))) ∷
+    row 8 0 (someIn (outOfTurn (λ i. writeOf (x .writes) i .key)) 0 (length (x .writes))) ∷
     row 9 0 (someIn (λ i. wrongKind (writeOf (x .writes) i)) 0 (length (x .writes))) ∷
     []
 

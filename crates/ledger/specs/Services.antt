@@ -4,14 +4,13 @@ use mathlib.Core.Bool.{not}
 use mathlib.Core.List.{List, [], _∷_, _++_}
 use lib.ListN.{length, replicate}
 use lib.Dec.{ltb}
-use Rattle.refusals.specs.Outcome.{Outcome, gives, refuses}
+use Rattle.refusals.specs.declared.Answer.{Answer}
+use Rattle.refusals.specs.Outcome.{Outcome, gives, refuses, outcome}
 use Rattle.refusals.specs.Fault.{Fault, Row, row, first, judged, after}
 use Rattle.ledger.specs.declared.Transaction.{Transaction}
 use Rattle.ledger.specs.declared.PageCheck.{PageCheck}
 use Rattle.ledger.specs.declared.PageCheck.the-variants.{Good, Bad}
 use Rattle.ledger.specs.declared.PageRead.{PageRead}
-use Rattle.ledger.specs.declared.PageWrite.{PageWrite}
-use Rattle.ledger.specs.declared.PageWrite.the-variants.{Written, Unwritten}
 use Rattle.ledger.specs.Tx.{valueTx, padded, noRead, noWrite}
 use Rattle.ledger.specs.Page.{countRows, entryRows, pageTx, pageFault, pageOf, placed}
 
@@ -51,7 +50,7 @@ taken x = record { answer = checked (x .check); transaction = x .transaction }
 
 -- the outcome, and the lent batch at the end
 pub record Put : Type 0 where
-  pub answer : Outcome (Unit {0})
+  pub answer : Outcome ℕ
   pub batch : List ℕ
 
 -- "17: page index not below the whole pages lent"
@@ -65,15 +64,12 @@ writeRows t index pages = countRows (t .r) (t .w) ++ (entryRows (valueTx t) ++ (
 abbrev pub writeFault : Transaction → ℕ → ℕ → Fault
 writeFault t index pages = first (writeRows t index pages)
 
+-- a page that is written has no count to give
 unfoldable pub writePage : List ℕ → ℕ → Transaction → Put
 writePage batch index t =
     let wrong = writeFault t index (length batch / 512) in
-    record { answer = judged wrong tt; batch = after wrong (placed batch index (pageOf (valueTx t))) batch }
+    record { answer = judged wrong 0; batch = after wrong (placed batch index (pageOf (valueTx t))) batch }
 
 -- the answer of the writer as an outcome, with the batch as it is at the end
-abbrev pub written : PageWrite → Outcome (Unit {0})
-written Written = gives tt
-written (Unwritten r) = refuses (r .number) (r .place)
-
-abbrev pub put : PageWrite → List ℕ → Put
-put x b = record { answer = written x; batch = b }
+abbrev pub put : Answer → List ℕ → Put
+put a b = record { answer = outcome a; batch = b }

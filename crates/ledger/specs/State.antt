@@ -6,10 +6,10 @@ use mathlib.Core.Path.{_≡_}
 use lib.ListN.{length, getD, set}
 use lib.Dec.{eqb, leb, ltb}
 use lib.IntN.{ℤ, pos}
-use mir.Syntax.{w64}
-use mir.Val.{ofZ}
 use Rattle.refusals.specs.Fault.{Row, row, eachRow}
 use Rattle.ledger.specs.declared.Version.{Version}
+use Rattle.ledger.specs.declared.Entry.{Entry}
+use Rattle.ledger.specs.Value.{isZero}
 use Rattle.ledger.specs.Version.{absent, at, same, ordinary}
 
 -- "Three lists of one length K, 1 to 1024: block numbers .., places .., values in kilograms"
@@ -27,11 +27,6 @@ pub record Level (b p : List ℕ) (v : List ℤ) : Type 0 where
   pub places : length p ≡ length b
   pub values : length v ≡ length b
 
--- what stands at one key
-pub record Entry : Type 0 where
-  pub version : Version
-  pub value : ℤ
-
 -- "Absent is block 0, place 65535, value 0"
 abbrev pub gone : Entry
 gone = record { version = absent; value = pos 0 }
@@ -40,9 +35,15 @@ gone = record { version = absent; value = pos 0 }
 abbrev pub keys : State → ℕ
 keys s = length (s .blocks)
 
--- "Key k is index k"
+-- "Key k is index k": the version of each key, by the lists of block numbers and places
+abbrev pub versionsIn : List ℕ → List ℕ → ℕ → Version
+versionsIn blocks places k = at (getD blocks k 0) (getD places k 0)
+
+abbrev pub versions : State → ℕ → Version
+versions s = versionsIn (s .blocks) (s .places)
+
 unfoldable pub entry : State → ℕ → Entry
-entry s k = record { version = at (getD (s .blocks) k 0) (getD (s .places) k 0); value = getD (s .values) k (pos 0) }
+entry s k = record { version = versions s k; value = getD (s .values) k (pos 0) }
 
 unfoldable pub store : State → ℕ → Entry → State
 store s k e = record {
@@ -53,7 +54,7 @@ store s k e = record {
 
 -- an entry is absent
 abbrev pub isGone : Entry → Bool
-isGone e = same (e .version) absent && eqb (ofZ w64 (e .value)) 0
+isGone e = same (e .version) absent && isZero (e .value)
 
 -- "Every other entry has a place of 0 to 63"; "every present entry must have a block number below n"
 abbrev pub wrongEntry : ℕ → Entry → Bool

@@ -1,22 +1,38 @@
 -- A transaction: a ticket, the reads and the writes, as many as there are. Assumes nothing.
 use Prim.Native.Nat.{ℕ, zero, suc, _+_, _-_, _^_, _<_}
 use mathlib.Core.Bool.{Bool, not, _||_, _&&_}
-use mathlib.Core.List.{List, _++_}
+use mathlib.Core.List.{List, _++_, map}
 use lib.ListN.{length, getD, take, replicate}
 use lib.Dec.{eqb, ltb}
 use lib.IntN.{pos}
 use mir.Syntax.{w64}
-use mir.Val.{SFits, ofZ}
+use mir.Val.{SFits}
+use Rattle.lists.specs.Members.{any}
 use Rattle.ledger.specs.declared.Version.{Version}
 use Rattle.ledger.specs.declared.Read.{Read}
 use Rattle.ledger.specs.declared.Write.{Write}
 use Rattle.ledger.specs.declared.Transaction.{Transaction}
+use Rattle.ledger.specs.Value.{isZero}
 use Rattle.ledger.specs.Version.{absent, same, ordinary}
 
 pub record Tx : Type 0 where
   pub ticket : ℕ
   pub reads : List Read
   pub writes : List Write
+
+-- the keys that a transaction reads, and those that it writes
+unfoldable pub keysRead : Tx → List ℕ
+keysRead x = map (λ r. r .key) (x .reads)
+
+unfoldable pub keysWritten : Tx → List ℕ
+keysWritten x = map (λ w. w .key) (x .writes)
+
+-- a "reader of a key", and a "writer of it"
+unfoldable pub reader : Tx → ℕ → Bool
+reader x k = any (eqb k) (keysRead x)
+
+unfoldable pub writer : Tx → ℕ → Bool
+writer x k = any (eqb k) (keysWritten x)
 
 -- the zeros that fill a transaction beyond its counts
 abbrev pub noRead : Read
@@ -56,12 +72,9 @@ floorOf key (suc i) = key i + 1
 abbrev pub wrongKey : ℕ → ℕ → Bool
 wrongKey floor key = ltb key floor || ltb 1023 key
 
--- "read keys not rising, or above 1023": so at index i
-abbrev pub readOutOfTurn : List Read → ℕ → Bool
-readOutOfTurn rs i = wrongKey (floorOf (λ j. readOf rs j .key) i) (readOf rs i .key)
-
-abbrev pub writeOutOfTurn : List Write → ℕ → Bool
-writeOutOfTurn ws i = wrongKey (floorOf (λ j. writeOf ws j .key) i) (writeOf ws i .key)
+-- "keys not rising, or above 1023", of reads and of writes: so at index i
+abbrev pub outOfTurn : (ℕ → ℕ) → ℕ → Bool
+outOfTurn key i = wrongKey (floorOf key i) (key i)
 
 -- "A read's version is absent (block 0, place 65535) or has a place of 0 to 63"
 abbrev pub wrongVersion : Version → Bool
@@ -69,7 +82,7 @@ wrongVersion v = not (ordinary v || same v absent)
 
 -- "Kind 0 puts, kind 1 deletes; a delete has value 0"
 abbrev pub wrongKind : Write → Bool
-wrongKind x = not (eqb (x .kind) 0 || (eqb (x .kind) 1 && eqb (ofZ w64 (x .value)) 0))
+wrongKind x = not (eqb (x .kind) 0 || (eqb (x .kind) 1 && isZero (x .value)))
 
 -- ---- the ranges of the types of the fields: what a value of the program always has
 

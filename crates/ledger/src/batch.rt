@@ -1,59 +1,81 @@
-// The one gate of a batch: refusals 11 to 16, with those of its pages.
-use crate::Gate;
+// The gate of a batch, stage by stage: each finds the first fault of its part of the table, and knows of no other.
 use crate::PageCheck;
+use crate::layout;
 use crate::page::check;
 use crate::page::held;
 use crate::state;
-use refusals::Refusal;
+use refusals::Finding;
 ghost use mathlib.Core.Path.{_≡_};
+ghost use mathlib.Core.List.{[], _∷_};
 ghost use Prim.Native.Nat.{ℕ, _*_, _≤_, _<_};
 ghost use lib.ListN.{length, getD};
 ghost use lib.Dec.{eqb};
-ghost use Rattle.lists.specs.Search.{firstIn};
-ghost use Rattle.refusals.specs.Outcome.{refuses};
-ghost use Rattle.refusals.specs.Fault.{clear, first, inTurn, judged};
+ghost use Rattle.lists.specs.Search.{firstIn, someIn};
+ghost use Rattle.refusals.specs.Fault.{clear, first, finding, inTurn};
 ghost use Rattle.ledger.specs.Page.{pageAt, pageTx, pageFault};
 ghost use Rattle.ledger.specs.State.{stateOf};
-ghost use Rattle.ledger.specs.Gate.{pages, txAt, rowsAt, again, beyond, pagesRows, gate, gated};
+ghost use Rattle.ledger.specs.Gate.{pages, txAt, rowsAt, beyond, bytesRow, frontRows, pagesRows, TicketsOf};
 
-// The most pages, and the most bytes.
-pub const MOST_PAGES: usize = 64;
-
-pub const MOST_BYTES: usize = 32768;
-
-// A batch that is refused.
-fn shut(number: u32, place: usize) -> Gate
-    requires { ⌜ place < 65536 ⌝ }
-    ensures { λ r. ⌜ gated r ≡ refuses number place ⌝ }
+// 11: a batch that is too long, or not of whole pages.
+fn length_fault(batch: &[u8]) -> Finding
+    ensures { λ f. ⌜ finding f ≡ first (bytesRow (now (batch .entry)) ∷ []) ⌝ }
 {
-    let refusal = Refusal {
-        number,
-        place: place as u32,
-    };
-    Gate::Shut { refusal }
+    if batch.len() > layout::MOST_BYTES {
+        return refusals::found(refusals::BATCH_LENGTH, 0);
+    }
+    if batch.len() % layout::PAGE != 0 {
+        return refusals::found(refusals::BATCH_LENGTH, 0);
+    }
+    Finding::Clear
+}
+
+// 11, 12 and 13: the length of the batch, then the state.
+pub fn front_fault(batch: &[u8], blocks: &[u32], places: &[u16], values: &[i64], n: u32) -> Finding
+    ensures { λ f. ⌜ (
+        let s = stateOf (now (blocks .entry)) (now (places .entry)) (now (values .entry)) in
+        finding f ≡ first (frontRows (now (batch .entry)) s n)
+        ) ⌝ }
+{
+    let found = length_fault(batch);
+    if let Finding::Found { refusal: _ } = found {
+        return found;
+    }
+    state::state_fault(blocks, places, values, n)
 }
 
 // 2 to 10: the lowest bad page, with its first number.
-fn bad_page(batch: &[u8], m: usize) -> Gate
+fn page_fault(batch: &[u8], m: usize) -> Finding
     requires { ⌜ (m * 512 ≤ length (now batch)) × (m ≤ 64) ⌝ }
-    ensures { λ r. ⌜ gated r ≡ judged (first (inTurn m (rowsAt (now (batch .entry))))) m ⌝ }
+    ensures { λ f. ⌜ finding f ≡ first (inTurn m (rowsAt (now (batch .entry)))) ⌝ }
 {
     let mut i = 0;
     while i < m {
-        let start = i * check::PAGE;
-        let end = start + check::PAGE;
-        let found = check::check_page(&batch[start..end]);
-        let PageCheck::Bad { refusal } = found else {
+        let check = check::check_page(layout::page_at(batch, i));
+        let PageCheck::Bad { refusal } = check else {
             i += 1;
             continue;
         };
-        return shut(refusal.number, i);
+        return refusals::found(refusal.number, i as u32);
     }
-    Gate::Open { pages: m }
+    Finding::Clear
+}
+
+// The tickets of the first `m` pages.
+pub fn tickets(batch: &[u8], m: usize) -> [u32; layout::MOST_PAGES]
+    requires { ⌜ (m * 512 ≤ length (now batch)) × (m ≤ 64) ⌝ }
+    ensures { λ r. ⌜ TicketsOf (now (batch .entry)) m r ⌝ }
+{
+    let mut all = [0u32; layout::MOST_PAGES];
+    let mut i = 0;
+    while i < m {
+        all[i] = held::ticket(layout::page_at(batch, i));
+        i += 1;
+    }
+    all
 }
 
 // The first of `n` tickets that is `ticket`; `n` where none is.
-fn find(tickets: &[u32; 64], n: usize, ticket: u32) -> usize
+fn find(tickets: &[u32; layout::MOST_PAGES], n: usize, ticket: u32) -> usize
     requires { ⌜ n ≤ 64 ⌝ }
     ensures { λ r. ⌜ r ≡ firstIn (λ j. eqb (getD (now (tickets .entry)) j 0) ticket) 0 n ⌝ }
 {
@@ -67,22 +89,19 @@ fn find(tickets: &[u32; 64], n: usize, ticket: u32) -> usize
     n
 }
 
-// 15: the lowest page whose ticket stands on an earlier page; `m` where none does.
-fn first_again(batch: &[u8], m: usize) -> usize
-    requires { ⌜ (m * 512 ≤ length (now batch)) × (m ≤ 64) ⌝ }
-    requires { ⌜ ((i : ℕ) → i < m → pageFault (pageAt (now batch) i) ≡ clear) ⌝ }
-    ensures { λ r. ⌜ r ≡ firstIn (again (now (batch .entry))) 0 m ⌝ }
+// 15: the first of `m` tickets that stands earlier too; `m` where none does.
+fn first_again(tickets: &[u32; layout::MOST_PAGES], m: usize) -> usize
+    requires { ⌜ m ≤ 64 ⌝ }
+    ensures { λ r. ⌜
+        r
+        ≡ firstIn (λ i. someIn (λ j. eqb (getD (now (tickets .entry)) j 0) (getD (now (tickets .entry)) i 0)) 0 i) 0 m
+        ⌝ }
 {
-    let mut tickets = [0u32; 64];
     let mut i = 0;
     while i < m {
-        let start = i * check::PAGE;
-        let end = start + check::PAGE;
-        let ticket = held::ticket(&batch[start..end]);
-        if find(&tickets, i, ticket) < i {
+        if find(tickets, i, tickets[i]) < i {
             return i;
         }
-        tickets[i] = ticket;
         i += 1;
     }
     m
@@ -118,9 +137,7 @@ fn first_beyond(batch: &[u8], m: usize, keys: usize) -> usize
 {
     let mut i = 0;
     while i < m {
-        let start = i * check::PAGE;
-        let end = start + check::PAGE;
-        if reaches_beyond(&batch[start..end], keys) {
+        if reaches_beyond(layout::page_at(batch, i), keys) {
             return i;
         }
         i += 1;
@@ -128,53 +145,24 @@ fn first_beyond(batch: &[u8], m: usize, keys: usize) -> usize
     m
 }
 
-// 2 to 10, 15 and 16: the pages, of a batch of whole pages.
-fn pages_gate(batch: &[u8], keys: usize) -> Gate
+// 2 to 10, then 15, then 16: the pages, their tickets, their keys.
+pub fn pages_fault(batch: &[u8], tickets: &[u32; layout::MOST_PAGES], keys: usize) -> Finding
     requires { ⌜ length (now batch) ≤ 32768 ⌝ }
-    ensures { λ r. ⌜ gated r ≡ judged (first (pagesRows (now (batch .entry)) keys)) (pages (now (batch .entry))) ⌝ }
+    requires { ⌜ TicketsOf (now batch) (pages (now batch)) (now tickets) ⌝ }
+    ensures { λ f. ⌜ finding f ≡ first (pagesRows (now (batch .entry)) keys) ⌝ }
 {
-    let m = batch.len() / check::PAGE;
-    let found = bad_page(batch, m);
-    let Gate::Open { pages: _ } = found else {
+    let m = batch.len() / layout::PAGE;
+    let found = page_fault(batch, m);
+    if let Finding::Found { refusal: _ } = found {
         return found;
-    };
-    let again = first_again(batch, m);
+    }
+    let again = first_again(tickets, m);
     if again < m {
-        return shut(refusals::TICKET_AGAIN, again);
+        return refusals::found(refusals::TICKET_AGAIN, again as u32);
     }
     let beyond = first_beyond(batch, m, keys);
     if beyond < m {
-        return shut(refusals::KEY_BEYOND_STATE, beyond);
+        return refusals::found(refusals::KEY_BEYOND_STATE, beyond as u32);
     }
-    Gate::Open { pages: m }
-}
-
-// The gate: 11, 12, 13, 14, then the pages. What 14 asks, whether a lent list is too short, is told.
-pub fn gate(
-    batch: &[u8],
-    blocks: &[u32],
-    places: &[u16],
-    values: &[i64],
-    n: u32,
-    short: bool,
-) -> Gate
-    ensures { λ r. ⌜ gated r ≡ gate short (now (batch .entry)) (stateOf (now (blocks .entry)) (now (places .entry)) (now (values .entry))) n ⌝ }
-{
-    if batch.len() > MOST_BYTES {
-        return shut(refusals::BATCH_LENGTH, 0);
-    }
-    if batch.len() % check::PAGE != 0 {
-        return shut(refusals::BATCH_LENGTH, 0);
-    }
-    if state::lengths_wrong(blocks, places, values) {
-        return shut(refusals::STATE_LENGTH, 0);
-    }
-    let key = state::first_wrong(blocks, places, values, n);
-    if key < blocks.len() {
-        return shut(refusals::STATE_ENTRY, key);
-    }
-    if short {
-        return shut(refusals::LENT_TOO_SHORT, 0);
-    }
-    pages_gate(batch, blocks.len())
+    Finding::Clear
 }

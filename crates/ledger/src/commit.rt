@@ -1,25 +1,25 @@
 // The version check and commit of a batch.
-use crate::Committed;
-use crate::Gate;
+use crate::Entry;
+use crate::Stamp;
 use crate::Version;
 use crate::Write;
 use crate::batch;
-use crate::entry;
-use crate::page::check;
+use crate::layout;
 use crate::page::held;
+use crate::rules;
 use crate::state;
+use refusals::Answer;
+use refusals::Finding;
 ghost use mathlib.Core.Path.{_≡_};
 ghost use mathlib.Core.Bool.{not};
-ghost use mathlib.Core.List.{List};
 ghost use Prim.Native.Nat.{_≤_, _<_};
 ghost use lib.ListN.{length};
-ghost use lib.IntN.{ℤ};
 ghost use Rattle.lists.specs.Search.{firstIn};
 ghost use Rattle.ledger.specs.Page.{pageTx};
 ghost use Rattle.ledger.specs.Tx.{readOf};
-ghost use Rattle.ledger.specs.State.{stateOf, Level, store};
+ghost use Rattle.ledger.specs.State.{stateOf, versionsIn, Level};
 ghost use Rattle.ledger.specs.Gate.{Ready, Batch};
-ghost use Rattle.ledger.specs.Commit.{names, passes, left, write, afterPage, commits, committed, commitBatch};
+ghost use Rattle.ledger.specs.Commit.{names, passes, left, write, afterPage, Commitment, committed, commitBatch};
 
 // The verdicts of commit.
 pub const PASSED: u8 = 0;
@@ -27,10 +27,14 @@ pub const PASSED: u8 = 0;
 pub const FAILED: u8 = 3;
 
 // The first read that does not name the version of its key; the count of reads where all do.
-pub fn first_stale(page: &[u8], blocks: &[u32], places: &[u16]) -> usize
+fn first_stale(page: &[u8], blocks: &[u32], places: &[u16]) -> usize
     requires { ⌜ Ready (length (now blocks)) (now page) ⌝ }
     requires { ⌜ length (now places) ≡ length (now blocks) ⌝ }
-    ensures { λ r. ⌜ ((v : List ℤ) → r ≡ firstIn (λ i. not (names (stateOf (now (blocks .entry)) (now (places .entry)) v) (readOf (pageTx (now (page .entry)) .reads) i))) 0 (length (pageTx (now (page .entry)) .reads))) ⌝ }
+    ensures { λ r. ⌜
+        r
+        ≡ firstIn (λ i. not (names (versionsIn (now (blocks .entry)) (now (places .entry)))
+        (readOf (pageTx (now (page .entry)) .reads) i))) 0 (length (pageTx (now (page .entry)) .reads))
+        ⌝ }
 {
     let n = held::reads(page);
     let mut i = 0;
@@ -49,35 +53,42 @@ pub fn first_stale(page: &[u8], blocks: &[u32], places: &[u16]) -> usize
 pub fn passes(page: &[u8], blocks: &[u32], places: &[u16]) -> bool
     requires { ⌜ Ready (length (now blocks)) (now page) ⌝ }
     requires { ⌜ length (now places) ≡ length (now blocks) ⌝ }
-    ensures { λ r. ⌜ ((v : List ℤ) → r ≡ passes (stateOf (now (blocks .entry)) (now (places .entry)) v) (pageTx (now (page .entry)))) ⌝ }
+    ensures { λ r. ⌜
+        r ≡ passes (versionsIn (now (blocks .entry)) (now (places .entry))) (pageTx (now (page .entry)))
+        ⌝ }
 {
     first_stale(page, blocks, places) == held::reads(page)
 }
 
-// Stores what a write leaves under version (n, i).
-fn store_write(blocks: &mut [u32], places: &mut [u16], values: &mut [i64], x: Write, n: u32, i: u16)
-    requires { ⌜ Level (now blocks) (now places) (now values) ⌝ }
-    requires { ⌜ x .key < length (now blocks) ⌝ }
-    ensures { λ _. ⌜ stateOf (now (blocks .exit)) (now (places .exit)) (now (values .exit)) ≡ store (stateOf (now (blocks .entry)) (now (places .entry)) (now (values .entry))) (x .key) (left n i x) ⌝ }
+// What a write leaves: a put its value under the stamp, a delete an absent key.
+fn left(x: Write, stamp: Stamp) -> Entry
+    ensures { λ e. ⌜ e ≡ left stamp x ⌝ }
 {
-    let key = x.key as usize;
-    if x.kind == entry::PUT {
-        state::store(blocks, places, values, key, Version::at(n, i), x.value);
-    } else {
-        state::store(blocks, places, values, key, Version::ABSENT, 0);
+    if x.kind == rules::PUT {
+        let version = Version::at(stamp.number, stamp.place);
+        return Entry {
+            version,
+            value: x.value,
+        };
     }
+    Entry::ABSENT
 }
 
 // Stores all that a page writes.
-fn apply(page: &[u8], blocks: &mut [u32], places: &mut [u16], values: &mut [i64], n: u32, i: u16)
+fn apply(page: &[u8], blocks: &mut [u32], places: &mut [u16], values: &mut [i64], stamp: Stamp)
     requires { ⌜ Ready (length (now blocks)) (now page) ⌝ }
     requires { ⌜ Level (now blocks) (now places) (now values) ⌝ }
-    ensures { λ _. ⌜ stateOf (now (blocks .exit)) (now (places .exit)) (now (values .exit)) ≡ write n i (stateOf (now (blocks .entry)) (now (places .entry)) (now (values .entry))) (pageTx (now (page .entry)) .writes) ⌝ }
+    ensures { λ _. ⌜ (
+        let s = stateOf (now (blocks .entry)) (now (places .entry)) (now (values .entry)) in
+        let left = stateOf (now (blocks .exit)) (now (places .exit)) (now (values .exit)) in
+        left ≡ write stamp s (pageTx (now (page .entry)) .writes)
+        ) ⌝ }
 {
     let count = held::writes(page);
     let mut j = 0;
     while j < count {
-        store_write(blocks, places, values, held::write(page, j), n, i);
+        let x = held::write(page, j);
+        state::store(blocks, places, values, x.key as usize, left(x, stamp));
         j += 1;
     }
 }
@@ -93,13 +104,23 @@ fn commit_page(
 ) -> bool
     requires { ⌜ Ready (length (now blocks)) (now page) ⌝ }
     requires { ⌜ Level (now blocks) (now places) (now values) ⌝ }
-    ensures { λ r. ⌜ r ≡ passes (stateOf (now (blocks .entry)) (now (places .entry)) (now (values .entry))) (pageTx (now (page .entry))) ⌝ }
-    ensures { λ r. ⌜ stateOf (now (blocks .exit)) (now (places .exit)) (now (values .exit)) ≡ afterPage n i (stateOf (now (blocks .entry)) (now (places .entry)) (now (values .entry))) (pageTx (now (page .entry))) ⌝ }
+    ensures { λ r. ⌜
+        r ≡ passes (versionsIn (now (blocks .entry)) (now (places .entry))) (pageTx (now (page .entry)))
+        ⌝ }
+    ensures { λ r. ⌜ (
+        let s = stateOf (now (blocks .entry)) (now (places .entry)) (now (values .entry)) in
+        let left = stateOf (now (blocks .exit)) (now (places .exit)) (now (values .exit)) in
+        left ≡ afterPage n i s (pageTx (now (page .entry)))
+        ) ⌝ }
 {
     if !passes(page, blocks, places) {
         return false;
     }
-    apply(page, blocks, places, values, n, i);
+    let stamp = Stamp {
+        number: n,
+        place: i,
+    };
+    apply(page, blocks, places, values, stamp);
     true
 }
 
@@ -116,14 +137,17 @@ fn commit_pages(
     requires { ⌜ Batch (length (now blocks)) (now batch) m ⌝ }
     requires { ⌜ Level (now blocks) (now places) (now values) ⌝ }
     requires { ⌜ m ≤ length (now verdicts) ⌝ }
-    ensures { λ r. ⌜ committed (Committed.Passed r) (stateOf (now (blocks .exit)) (now (places .exit)) (now (values .exit))) (now (verdicts .exit)) ≡ commits (now (batch .entry)) (stateOf (now (blocks .entry)) (now (places .entry)) (now (values .entry))) n (now (verdicts .entry)) ⌝ }
+    ensures { λ r. ⌜ (
+        let s = stateOf (now (blocks .entry)) (now (places .entry)) (now (values .entry)) in
+        let left = stateOf (now (blocks .exit)) (now (places .exit)) (now (values .exit)) in
+        Commitment (now (batch .entry)) s n (now (verdicts .entry)) r left (now (verdicts .exit))
+        ) ⌝ }
 {
     let mut count = 0;
     let mut i = 0;
     while i < m {
-        let start = i * check::PAGE;
-        let end = start + check::PAGE;
-        if commit_page(&batch[start..end], blocks, places, values, n, i as u16) {
+        let page = layout::page_at(batch, i);
+        if commit_page(page, blocks, places, values, n, i as u16) {
             verdicts[i] = PASSED;
             count += 1;
         } else {
@@ -142,15 +166,26 @@ pub fn commit_batch(
     values: &mut [i64],
     n: u32,
     verdicts: &mut [u8],
-) -> Committed
-    ensures { λ r. ⌜ committed r (stateOf (now (blocks .exit)) (now (places .exit)) (now (values .exit))) (now (verdicts .exit)) ≡ commitBatch (now (batch .entry)) (stateOf (now (blocks .entry)) (now (places .entry)) (now (values .entry))) n (now (verdicts .entry)) ⌝ }
+) -> Answer
+    ensures { λ r. ⌜ (
+        let s = stateOf (now (blocks .entry)) (now (places .entry)) (now (values .entry)) in
+        let left = stateOf (now (blocks .exit)) (now (places .exit)) (now (values .exit)) in
+        committed r left (now (verdicts .exit)) ≡ commitBatch (now (batch .entry)) s n (now (verdicts .entry))
+        ) ⌝ }
 {
-    let short = verdicts.len() < batch.len() / check::PAGE;
-    match batch::gate(batch, blocks, places, values, n, short) {
-        Gate::Shut { refusal } => Committed::Uncommitted { refusal },
-        Gate::Open { pages } => {
-            let passed = commit_pages(batch, blocks, places, values, n, verdicts, pages);
-            Committed::Passed { pages: passed }
-        }
+    let found = batch::front_fault(batch, blocks, places, values, n);
+    if let Finding::Found { refusal } = found {
+        return Answer::Refused { refusal };
     }
+    let m = batch.len() / layout::PAGE;
+    if verdicts.len() < m {
+        return refusals::refused(refusals::LENT_TOO_SHORT, 0);
+    }
+    let tickets = batch::tickets(batch, m);
+    let found = batch::pages_fault(batch, &tickets, blocks.len());
+    if let Finding::Found { refusal } = found {
+        return Answer::Refused { refusal };
+    }
+    let count = commit_pages(batch, blocks, places, values, n, verdicts, m);
+    Answer::Count { count }
 }

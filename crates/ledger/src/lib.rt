@@ -1,4 +1,4 @@
-// The ledger: pages, the state, the one gate of a batch, version check and commit.
+// The ledger: pages, the state, the gate of a batch, version check and commit.
 use refusals::Refusal;
 
 // A version: a block number and a place.
@@ -20,18 +20,30 @@ pub struct Write {
     pub value: i64,
 }
 
+// What stands at a key: a version, and a value in kilograms.
+pub struct Entry {
+    pub version: Version,
+    pub value: i64,
+}
+
+// What the writes of a page are marked with: the number of the batch, and the page's place in it.
+pub struct Stamp {
+    pub number: u32,
+    pub place: u16,
+}
+
 // A transaction: `r` reads and `w` writes; entries beyond these count for nothing.
 pub struct Transaction {
     pub ticket: u32,
     pub r: usize,
     pub w: usize,
-    pub reads: [Read; 32],
-    pub writes: [Write; 32],
+    pub reads: [Read; layout::MOST_ENTRIES],
+    pub writes: [Write; layout::MOST_ENTRIES],
 }
 
 // What checking a page finds: its counts of reads and writes, or its first fault.
 pub enum PageCheck {
-    Good { reads: usize, writes: usize },
+    Good { reads: u32, writes: u32 },
     Bad { refusal: Refusal },
 }
 
@@ -41,27 +53,10 @@ pub struct PageRead {
     pub transaction: Transaction,
 }
 
-// What writing a page did.
-pub enum PageWrite {
-    Written,
-    Unwritten { refusal: Refusal },
-}
-
-// What the gate says of a batch: how many pages it has, or why it is refused.
-pub enum Gate {
-    Open { pages: usize },
-    Shut { refusal: Refusal },
-}
-
-// What a commit did: how many pages passed, or why nothing was done.
-pub enum Committed {
-    Passed { pages: usize },
-    Uncommitted { refusal: Refusal },
-}
-
 pub mod batch;
 pub mod commit;
-mod entry;
+pub mod layout;
 pub mod page;
+mod rules;
 pub mod state;
 mod versions;

@@ -2,7 +2,6 @@
 pub mod check;
 mod counts;
 mod fill;
-mod given;
 pub mod held;
 pub mod read;
 pub mod write;

@@ -1,14 +1,15 @@
 // The ledger's state: block numbers, places and values, lent as three lists; key k is index k.
+use crate::Entry;
 use crate::Version;
+use crate::layout;
+use refusals::Finding;
 ghost use mathlib.Core.Path.{_≡_};
 ghost use Prim.Native.Nat.{_<_};
 ghost use lib.ListN.{length, getD};
 ghost use Rattle.lists.specs.Search.{firstIn};
 ghost use Rattle.ledger.specs.Version.{at};
-ghost use Rattle.ledger.specs.State.{stateOf, entry, store, wrongEntry, wrongLengths};
-
-// The most keys.
-pub const MOST_KEYS: usize = 1024;
+ghost use Rattle.refusals.specs.Fault.{first, finding};
+ghost use Rattle.ledger.specs.State.{stateOf, entry, store, isGone, wrongEntry, wrongLengths, stateRows};
 
 // Whether the three lists are unequal, empty or too long.
 pub fn lengths_wrong(blocks: &[u32], places: &[u16], values: &[i64]) -> bool
@@ -24,20 +25,37 @@ pub fn lengths_wrong(blocks: &[u32], places: &[u16], values: &[i64]) -> bool
     if keys == 0 {
         return true;
     }
-    keys > MOST_KEYS
+    keys > layout::MOST_KEYS
+}
+
+impl Entry {
+    // "Absent is block 0, place 65535, value 0."
+    pub const ABSENT: Entry = Entry {
+        version: Version::ABSENT,
+        value: 0,
+    };
+
+    // Whether the entry is absent.
+    pub fn is_absent(self) -> bool
+        ensures { λ r. ⌜ r ≡ isGone self ⌝ }
+    {
+        let version = self.version;
+        if !version.same(Version::ABSENT) {
+            return false;
+        }
+        self.value == 0
+    }
 }
 
 // An entry that is neither absent nor at a place of 0 to 63 of a block below n.
-fn entry_wrong(version: Version, value: i64, n: u32) -> bool
-    ensures { λ r. ⌜ r ≡ wrongEntry n (record { version = version; value = value }) ⌝ }
+fn entry_wrong(e: Entry, n: u32) -> bool
+    ensures { λ r. ⌜ r ≡ wrongEntry n e ⌝ }
 {
+    let version = e.version;
     if version.ordinary() {
         return version.block >= n;
     }
-    if !version.same(Version::ABSENT) {
-        return true;
-    }
-    value != 0
+    !e.is_absent()
 }
 
 // The version at a key.
@@ -48,15 +66,29 @@ pub fn version_at(blocks: &[u32], places: &[u16], key: usize) -> Version
     Version::at(blocks[key], places[key])
 }
 
+// The entry at a key.
+pub fn entry_at(blocks: &[u32], places: &[u16], values: &[i64], key: usize) -> Entry
+    requires { ⌜ (key < length (now blocks)) × (key < length (now places)) × (key < length (now values)) ⌝ }
+    ensures { λ e. ⌜ e ≡ entry (stateOf (now (blocks .entry)) (now (places .entry)) (now (values .entry))) key ⌝ }
+{
+    let version = version_at(blocks, places, key);
+    Entry {
+        version,
+        value: values[key],
+    }
+}
+
 // The lowest key whose entry is wrong; the count of keys where none is.
-pub fn first_wrong(blocks: &[u32], places: &[u16], values: &[i64], n: u32) -> usize
+fn first_wrong(blocks: &[u32], places: &[u16], values: &[i64], n: u32) -> usize
     requires { ⌜ (length (now places) ≡ length (now blocks)) × (length (now values) ≡ length (now blocks)) ⌝ }
-    ensures { λ r. ⌜ r ≡ firstIn (λ k. wrongEntry n (entry (stateOf (now (blocks .entry)) (now (places .entry)) (now (values .entry))) k)) 0 (length (now (blocks .entry))) ⌝ }
+    ensures { λ r. ⌜ (
+        let s = stateOf (now (blocks .entry)) (now (places .entry)) (now (values .entry)) in
+        r ≡ firstIn (λ k. wrongEntry n (entry s k)) 0 (length (now (blocks .entry)))
+        ) ⌝ }
 {
     let mut k = 0;
     while k < blocks.len() {
-        let version = version_at(blocks, places, k);
-        if entry_wrong(version, values[k], n) {
+        if entry_wrong(entry_at(blocks, places, values, k), n) {
             return k;
         }
         k += 1;
@@ -64,18 +96,40 @@ pub fn first_wrong(blocks: &[u32], places: &[u16], values: &[i64], n: u32) -> us
     k
 }
 
+// 12 and 13: the first fault of a state under the number n.
+pub fn state_fault(blocks: &[u32], places: &[u16], values: &[i64], n: u32) -> Finding
+    ensures { λ f. ⌜ (
+        let s = stateOf (now (blocks .entry)) (now (places .entry)) (now (values .entry)) in
+        finding f ≡ first (stateRows s n)
+        ) ⌝ }
+{
+    if lengths_wrong(blocks, places, values) {
+        return refusals::found(refusals::STATE_LENGTH, 0);
+    }
+    let key = first_wrong(blocks, places, values, n);
+    if key < blocks.len() {
+        return refusals::found(refusals::STATE_ENTRY, key as u32);
+    }
+    Finding::Clear
+}
+
 // Stores an entry at a key.
-pub fn store(
+pub(crate) fn store(
     blocks: &mut [u32],
     places: &mut [u16],
     values: &mut [i64],
     key: usize,
-    version: Version,
-    value: i64,
+    e: Entry,
 )
     requires { ⌜ (key < length (now blocks)) × (key < length (now places)) × (key < length (now values)) ⌝ }
-    ensures { λ _. ⌜ stateOf (now (blocks .exit)) (now (places .exit)) (now (values .exit)) ≡ store (stateOf (now (blocks .entry)) (now (places .entry)) (now (values .entry))) key (record { version = version; value = value }) ⌝ }
+    ensures { λ _. ⌜ (
+        let s = stateOf (now (blocks .entry)) (now (places .entry)) (now (values .entry)) in
+        let left = stateOf (now (blocks .exit)) (now (places .exit)) (now (values .exit)) in
+        left ≡ store s key e
+        ) ⌝ }
 {
+    let version = e.version;
+    let value = e.value;
     blocks[key] = version.block;
     places[key] = version.place;
     values[key] = value;

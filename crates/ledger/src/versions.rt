@@ -1,5 +1,6 @@
 // The version type: absent, at a block and place, same.
 use crate::Version;
+use crate::layout;
 ghost use mathlib.Core.Path.{_≡_};
 ghost use Rattle.ledger.specs.Version.{absent, at, same, ordinary};
 
@@ -7,11 +8,8 @@ impl Version {
     // "Absent is block 0, place 65535."
     pub const ABSENT: Version = Version {
         block: 0,
-        place: 65535,
+        place: layout::NO_PLACE,
     };
-
-    // The highest place in a block.
-    pub const LAST_PLACE: u16 = 63;
 
     pub fn absent() -> Version
         ensures { λ r. ⌜ r ≡ absent ⌝ }
@@ -35,6 +33,6 @@ impl Version {
     pub fn ordinary(self) -> bool
         ensures { λ r. ⌜ r ≡ ordinary self ⌝ }
     {
-        self.place <= Version::LAST_PLACE
+        self.place <= layout::LAST_PLACE
     }
 }

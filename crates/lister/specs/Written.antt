@@ -5,7 +5,7 @@ use lib.ListN.{take}
 use Rattle.refusals.specs.Outcome.{gives, refuses}
 use Rattle.ledger.specs.State.{State}
 use Rattle.ledger.specs.Commit.{commitBatch}
-use Rattle.planner.specs.Plan.{Plans, planBatch}
+use Rattle.planning.specs.Plan.{Plans, planBatch}
 use Rattle.report.specs.Listing.{listed, refused}
 use Rattle.lister.specs.declared.stdin.Input.{Input}
 use Rattle.lister.specs.declared.stdin.Input.the-variants.{Bytes, TooLong, Unread}

@@ -2,8 +2,8 @@
 mod list;
 mod stdin;
 
-use ledger::batch::MOST_BYTES;
-use ledger::batch::MOST_PAGES;
+use ledger::layout::MOST_BYTES;
+use ledger::layout::MOST_PAGES;
 use report::LISTING_ROOM;
 use stdin::Input;
 ghost use Prim.Native.Nat.{_≤_};

@@ -1,6 +1,6 @@
 // The listing of an input.
-use ledger::page::check;
-use planner::Planned;
+use ledger::layout;
+use refusals::Answer;
 ghost use Prim.Native.Nat.{_≤_};
 ghost use mathlib.Core.Path.{_≡_};
 ghost use lib.ListN.{length};
@@ -33,15 +33,23 @@ pub fn list_input(
     text: &mut [u8],
 ) -> usize
     ensures { λ r. ⌜ r ≤ length (now (text .exit)) ⌝ }
-    ensures { λ r. ⌜ r ≡ length (answer (now (text .entry)) (now (input .entry)) (stateOf (now (blocks .entry)) (now (places .entry)) (now (values .entry))) (now (verdicts .entry)) (now (order .entry)) (now (out .entry)) (now (passed .entry))) ⌝ }
-    ensures { λ r. ⌜ now (text .exit) ≡ filled (answer (now (text .entry)) (now (input .entry)) (stateOf (now (blocks .entry)) (now (places .entry)) (now (values .entry))) (now (verdicts .entry)) (now (order .entry)) (now (out .entry)) (now (passed .entry))) (now (text .entry)) ⌝ }
+    ensures { λ r. ⌜ (
+        let s = stateOf (now (blocks .entry)) (now (places .entry)) (now (values .entry)) in
+        r
+        ≡ length (answer (now (text .entry)) (now (input .entry)) s (now (verdicts .entry)) (now (order .entry))
+        (now (out .entry)) (now (passed .entry)))
+        ) ⌝ }
+    ensures { λ r. ⌜ (
+        let s = stateOf (now (blocks .entry)) (now (places .entry)) (now (values .entry)) in
+        now (text .exit)
+        ≡ filled (answer (now (text .entry)) (now (input .entry)) s (now (verdicts .entry)) (now (order .entry))
+        (now (out .entry)) (now (passed .entry))) (now (text .entry))
+        ) ⌝ }
 {
     match planner::plan::plan_batch(input, blocks, places, values, FIRST, verdicts, order, out) {
-        Planned::Unplanned { refusal } => {
-            report::fill_refusal(text, refusal.number, refusal.place)
-        }
-        Planned::Kept { pages } => {
-            let end = check::PAGE * pages;
+        Answer::Refused { refusal } => { report::fill_refusal(text, refusal.number, refusal.place) }
+        Answer::Count { count: pages } => {
+            let end = layout::PAGE * pages;
             ledger::commit::commit_batch(&out[..end], blocks, places, values, FIRST, passed);
             report::fill_listing(
                 text,

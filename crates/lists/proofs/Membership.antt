@@ -7,7 +7,7 @@ use Prim.Native.Nat.{ℕ, zero, suc, _+_, _≤_, _<_}
 use native.Mathlib.Numerals.{add-one}
 use native.Mathlib.Omega.{arith}
 use lib.ListN.{length, getD, length-append}
-use lib.Dec.{T, T-not, eqb, eqb→eq}
+use lib.Dec.{T, T-not, eqb, eqb-refl, eqb→eq}
 use Rattle.lists.specs.Choice.{pick}
 use Rattle.lists.specs.Members.{_∈_, any, all, those, distinct, upto}
 use Rattle.lists.proofs.Tests.{both, and-left, and-right, or-left, or-right, or-cases, by-test, decide, clash, eqb-sym, differ, unequal}
@@ -39,6 +39,11 @@ module _ {A : Type 0} where
   getD-in [] k d h = absurd (omega arith)
   getD-in (x ∷ xs) zero d h = List·Memᴰ·head refl
   getD-in (x ∷ xs) (suc k) d h = List·Memᴰ·tail (getD-in xs k d (omega arith))
+
+  -- and a member stands at some index
+  pub in-at : (xs : List A) (d : A) {x : A} → x ∈ xs → (k : ℕ) × (k < length xs) × (x ≡ getD xs k d)
+  in-at (y ∷ ys) d (List·Memᴰ·head e) = (0, omega arith, e)
+  in-at (y ∷ ys) d (List·Memᴰ·tail m) = let w = in-at ys d m in (suc (w .0), omega (arith, w .1), w .2)
 
   -- ---- those that pass
 
@@ -186,6 +191,23 @@ module _ {A B : Type 0} (f : A → B) where
   map-out (x ∷ xs) (List·Memᴰ·head e) = (x, List·Memᴰ·head refl, e)
   map-out (x ∷ xs) (List·Memᴰ·tail m) = let w = map-out xs m in (w .0, List·Memᴰ·tail (w .1), w .2)
 
+  pub map-in : (xs : List A) {x : A} → x ∈ xs → f x ∈ map f xs
+  map-in (y ∷ ys) (List·Memᴰ·head e) = List·Memᴰ·head (ap f e)
+  map-in (y ∷ ys) (List·Memᴰ·tail m) = List·Memᴰ·tail (map-in ys m)
+
+module _ {A B : Type 0} (f g : A → B) where
+  pub map-same : (xs : List A) → ((x : A) → x ∈ xs → f x ≡ g x) → map f xs ≡ map g xs
+  map-same [] h = refl
+  map-same (x ∷ xs) h =
+      ap₂ (λ y l. y ∷ l) (h x (List·Memᴰ·head refl)) (map-same xs (λ y m. h y (List·Memᴰ·tail m)))
+
+-- the test whether a number is one of a list
+pub one-of : (i : ℕ) (is : List ℕ) → T (any (eqb i) is) ↔ (i ∈ is)
+one-of i is = (
+  λ t. let w = any-out (eqb i) is t in subst (λ (j : ℕ). j ∈ is) (sym (eqb→eq i (w .0) (w .2))) (w .1),
+  λ m. any-in (eqb i) is m (eqb-refl i),
+)
+
 -- ---- lists without repetition
 
 pub apart : (i : ℕ) (is : List ℕ) → T (distinct (i ∷ is)) → {j : ℕ} → j ∈ is → T (not (eqb i j))
@@ -199,6 +221,13 @@ rest i is d = and-right (all (λ j. not (eqb i j)) is) _ d
 pub make : (i : ℕ) (is : List ℕ) → ((j : ℕ) → j ∈ is → T (not (eqb i j))) → T (distinct is) → T (distinct (i ∷ is))
 unfolding distinct
 make i is f d = both (all (λ j. not (eqb i j)) is) _ (all-in (λ j. not (eqb i j)) is f) d
+
+-- two places of it hold two numbers
+pub distinct-at : (is : List ℕ) → T (distinct is) → (i j : ℕ) → i < j → j < length is → getD is i 0 ≡ getD is j 0 → ⊥
+distinct-at [] d i j h l = absurd (omega arith)
+distinct-at (x ∷ is) d i zero h l = absurd (omega arith)
+distinct-at (x ∷ is) d zero (suc j) h l = differ x (getD is j 0) (apart x is d (getD-in is j 0 (omega arith)))
+distinct-at (x ∷ is) d (suc i) (suc j) h l = distinct-at is (rest x is d) i j (omega arith) (omega arith)
 
 -- a rearrangement repeats nothing either
 pub perm-distinct : {is js : List ℕ} → List·Permᴰ is js → T (distinct is) → T (distinct js)

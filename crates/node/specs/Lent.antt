@@ -13,8 +13,8 @@ use Rattle.ledger.specs.Version.{at}
 use Rattle.ledger.specs.Services.{readPage, Put}
 use Rattle.ledger.specs.State.{State}
 use Rattle.ledger.specs.Commit.{Commits}
-use Rattle.planner.specs.Plan.{Plans}
-use Rattle.node.specs.Word.{upper, word, bare}
+use Rattle.planning.specs.Plan.{Plans}
+use Rattle.node.specs.Word.{upper, word}
 
 -- ---- a transaction as the node lends it: the number of reads, of writes and the ticket, and six arrays of 32
 
@@ -55,7 +55,7 @@ pub record PageLeft : Type 0 where
   pub word : ℕ
   pub arrays : Arrays
 
--- the transaction on a good page; "On a refusal nothing lent changes, head and the six arrays .. included"
+-- the transaction on a good page; "On a refusal nothing lent changes."
 unfoldable pub pageLeft : List ℕ → Arrays → PageLeft
 pageLeft p a =
     elim (readPage p .answer) [
@@ -90,7 +90,7 @@ pub record PutLeft : Type 0 where
   pub batch : List ℕ
 
 abbrev pub putLeft : Put → PutLeft
-putLeft w = record { word = bare (w .answer); batch = w .batch }
+putLeft w = record { word = word (w .answer); batch = w .batch }
 
 pub record CommitLeft : Type 0 where
   pub word : ℕ

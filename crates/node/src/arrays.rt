@@ -2,6 +2,7 @@
 use ledger::Read;
 use ledger::Version;
 use ledger::Write;
+use ledger::layout;
 ghost use mathlib.Core.Path.{_≡_};
 ghost use lib.ListN.{length, getD};
 ghost use lib.IntN.{pos};
@@ -10,7 +11,7 @@ ghost use Rattle.ledger.specs.Version.{at};
 ghost use Rattle.ledger.specs.Tx.{readOf, writeOf};
 
 // Entries of each array.
-const ENTRIES: usize = 32;
+const ENTRIES: usize = layout::MOST_ENTRIES;
 
 const NO_READ: Read = Read {
     key: 0,
@@ -24,7 +25,7 @@ const NO_WRITE: Write = Write {
 };
 
 // Fills three arrays with the reads of a transaction.
-pub fn fill_reads(reads: [Read; 32], keys: &mut [u16], places: &mut [u16], blocks: &mut [u32])
+pub fn fill_reads(reads: [Read; ENTRIES], keys: &mut [u16], places: &mut [u16], blocks: &mut [u32])
     requires { ⌜ (length (now keys) ≡ 32) × (length (now places) ≡ 32) × (length (now blocks) ≡ 32) ⌝ }
     ensures { λ _. ⌜ now (keys .exit) ≡ tab 32 (λ i. readOf reads i .key) ⌝ }
     ensures { λ _. ⌜ now (places .exit) ≡ tab 32 (λ i. readOf reads i .version .place) ⌝ }
@@ -41,7 +42,12 @@ pub fn fill_reads(reads: [Read; 32], keys: &mut [u16], places: &mut [u16], block
 }
 
 // Fills three arrays with the writes of a transaction.
-pub fn fill_writes(writes: [Write; 32], keys: &mut [u16], kinds: &mut [u16], values: &mut [i64])
+pub fn fill_writes(
+    writes: [Write; ENTRIES],
+    keys: &mut [u16],
+    kinds: &mut [u16],
+    values: &mut [i64],
+)
     requires { ⌜ (length (now keys) ≡ 32) × (length (now kinds) ≡ 32) × (length (now values) ≡ 32) ⌝ }
     ensures { λ _. ⌜ now (keys .exit) ≡ tab 32 (λ i. writeOf writes i .key) ⌝ }
     ensures { λ _. ⌜ now (kinds .exit) ≡ tab 32 (λ i. writeOf writes i .kind) ⌝ }
@@ -66,10 +72,21 @@ pub fn count(n: u32) -> usize
 }
 
 // The reads in three arrays.
-pub fn reads_of(keys: &[u16; 32], places: &[u16; 32], blocks: &[u32; 32]) -> [Read; 32]
-    ensures { λ xs. ⌜ xs ≡ tab 32 (λ i. record { key = getD (now (keys .entry)) i 0; version = at (getD (now (blocks .entry)) i 0) (getD (now (places .entry)) i 0) }) ⌝ }
+pub fn reads_of(
+    keys: &[u16; ENTRIES],
+    places: &[u16; ENTRIES],
+    blocks: &[u32; ENTRIES],
+) -> [Read; ENTRIES]
+    ensures { λ xs. ⌜
+        xs
+        ≡ tab 32 (λ i. record {
+          key = getD (now (keys .entry)) i 0;
+          version = at (getD (now (blocks .entry)) i 0)
+              (getD (now (places .entry)) i 0);
+        })
+        ⌝ }
 {
-    let mut xs = [NO_READ; 32];
+    let mut xs = [NO_READ; ENTRIES];
     let mut i = 0;
     while i < ENTRIES {
         xs[i] = Read {
@@ -85,10 +102,22 @@ pub fn reads_of(keys: &[u16; 32], places: &[u16; 32], blocks: &[u32; 32]) -> [Re
 }
 
 // The writes in three arrays.
-pub fn writes_of(keys: &[u16; 32], kinds: &[u16; 32], values: &[i64; 32]) -> [Write; 32]
-    ensures { λ xs. ⌜ xs ≡ tab 32 (λ i. record { key = getD (now (keys .entry)) i 0; kind = getD (now (kinds .entry)) i 0; value = getD (now (values .entry)) i (pos 0) }) ⌝ }
+pub fn writes_of(
+    keys: &[u16; ENTRIES],
+    kinds: &[u16; ENTRIES],
+    values: &[i64; ENTRIES],
+) -> [Write; ENTRIES]
+    ensures { λ xs. ⌜
+        xs
+        ≡ tab 32 (λ i. record {
+          key = getD (now (keys .entry)) i 0;
+          kind = getD (now (kinds .entry)) i 0;
+          value = getD
+              (now (values .entry)) i (pos 0);
+        })
+        ⌝ }
 {
-    let mut xs = [NO_WRITE; 32];
+    let mut xs = [NO_WRITE; ENTRIES];
     let mut i = 0;
     while i < ENTRIES {
         xs[i] = Write {

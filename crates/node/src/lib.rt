@@ -1,19 +1,18 @@
 // The services for other languages: a static library. Each promise is that of the service below it.
-use ledger::Committed;
 use ledger::PageCheck;
-use ledger::PageWrite;
 use ledger::Transaction;
-use planner::Planned;
+use ledger::layout;
+use refusals::Answer;
 use refusals::Refusal;
 use tonnage::Reading;
-use tonnage::Writing;
 ghost use mathlib.Core.Path.{_≡_};
 ghost use Rattle.tonnage.specs.Services.{writeText};
 ghost use Rattle.ledger.specs.Services.{writePage};
 ghost use Rattle.ledger.specs.State.{stateOf};
 ghost use Rattle.ledger.specs.Commit.{commitBatch};
-ghost use Rattle.planner.specs.Plan.{planBatch};
-ghost use Rattle.node.specs.Word.{upper};
+ghost use Rattle.planning.specs.Plan.{planBatch};
+ghost use Rattle.refusals.specs.Outcome.{outcome};
+ghost use Rattle.node.specs.Word.{upper, word};
 ghost use Rattle.node.specs.Lent.{lentTx, pageLeft, textLeft, writtenLeft, putLeft, commitLeft, planLeft};
 
 mod arrays;
@@ -28,6 +27,16 @@ fn refused(r: Refusal) -> u64
     (r.number as u64) * NUMBER + r.place as u64
 }
 
+// An answer as a word.
+fn answered(a: Answer) -> u64
+    ensures { λ w. ⌜ w ≡ word (outcome a) ⌝ }
+{
+    match a {
+        Answer::Count { count } => count as u64,
+        Answer::Refused { refusal } => refused(refusal),
+    }
+}
+
 // Plans a batch: verdicts, order and out are filled as document 01 says.
 #[no_mangle]
 pub extern "C" fn nevolisca_plan(
@@ -40,12 +49,14 @@ pub extern "C" fn nevolisca_plan(
     order: &mut [u8],
     out: &mut [u8],
 ) -> u64
-    ensures { λ r. ⌜ record { word = r; verdicts = now (verdicts .exit); order = now (order .exit); out = now (out .exit) } ≡ planLeft (planBatch (now (batch .entry)) (stateOf (now (blocks .entry)) (now (places .entry)) (now (values .entry))) n (now (verdicts .entry)) (now (order .entry)) (now (out .entry))) ⌝ }
+    ensures { λ r. ⌜ (
+        let s = stateOf (now (blocks .entry)) (now (places .entry)) (now (values .entry)) in
+        record { word = r; verdicts = now (verdicts .exit); order = now (order .exit); out = now (out .exit) }
+        ≡ planLeft (planBatch (now (batch .entry)) s n (now (verdicts .entry)) (now (order .entry))
+        (now (out .entry)))
+        ) ⌝ }
 {
-    match planner::plan::plan_batch(batch, blocks, places, values, n, verdicts, order, out) {
-        Planned::Kept { pages } => pages as u64,
-        Planned::Unplanned { refusal } => refused(refusal),
-    }
+    answered(planner::plan::plan_batch(batch, blocks, places, values, n, verdicts, order, out))
 }
 
 // Commits a batch: the state and the verdicts are filled.
@@ -58,18 +69,22 @@ pub extern "C" fn nevolisca_commit(
     n: u32,
     verdicts: &mut [u8],
 ) -> u64
-    ensures { λ r. ⌜ record { word = r; state = stateOf (now (blocks .exit)) (now (places .exit)) (now (values .exit)); verdicts = now (verdicts .exit) } ≡ commitLeft (commitBatch (now (batch .entry)) (stateOf (now (blocks .entry)) (now (places .entry)) (now (values .entry))) n (now (verdicts .entry))) ⌝ }
+    ensures { λ r. ⌜ (
+        let s = stateOf (now (blocks .entry)) (now (places .entry)) (now (values .entry)) in
+        let left = stateOf (now (blocks .exit)) (now (places .exit)) (now (values .exit)) in
+        record { word = r; state = left; verdicts = now (verdicts .exit) }
+        ≡ commitLeft (commitBatch (now (batch .entry)) s n (now (verdicts .entry)))
+        ) ⌝ }
 {
-    match ledger::commit::commit_batch(batch, blocks, places, values, n, verdicts) {
-        Committed::Passed { pages } => pages as u64,
-        Committed::Uncommitted { refusal } => refused(refusal),
-    }
+    answered(ledger::commit::commit_batch(batch, blocks, places, values, n, verdicts))
 }
 
 // Reads a tonnage text.
 #[no_mangle]
 pub extern "C" fn nevolisca_read_tonnage(text: &[u8], kilograms: &mut i64) -> u64
-    ensures { λ r. ⌜ record { word = r; kilograms = now (kilograms .exit) } ≡ textLeft (now (text .entry)) (now (kilograms .entry)) ⌝ }
+    ensures { λ r. ⌜
+        record { word = r; kilograms = now (kilograms .exit) } ≡ textLeft (now (text .entry)) (now (kilograms .entry))
+        ⌝ }
 {
     match tonnage::text::read_tonnage(text) {
         Reading::Kilograms { value } => {
@@ -83,12 +98,11 @@ pub extern "C" fn nevolisca_read_tonnage(text: &[u8], kilograms: &mut i64) -> u6
 // Writes a tonnage text to the front of a buffer.
 #[no_mangle]
 pub extern "C" fn nevolisca_write_tonnage(text: &mut [u8], kilograms: i64) -> u64
-    ensures { λ r. ⌜ record { word = r; text = now (text .exit) } ≡ writtenLeft (writeText (now (text .entry)) kilograms) ⌝ }
+    ensures { λ r. ⌜
+        record { word = r; text = now (text .exit) } ≡ writtenLeft (writeText (now (text .entry)) kilograms)
+        ⌝ }
 {
-    match tonnage::text::write_tonnage(text, kilograms) {
-        Writing::Length { length } => length as u64,
-        Writing::Unwritten { refusal } => refused(refusal),
-    }
+    answered(tonnage::text::write_tonnage(text, kilograms))
 }
 
 // Reads a page into a transaction's arrays.
@@ -96,14 +110,36 @@ pub extern "C" fn nevolisca_write_tonnage(text: &mut [u8], kilograms: i64) -> u6
 pub extern "C" fn nevolisca_read_page(
     page: &[u8],
     head: &mut [u32; 3],
-    read_keys: &mut [u16; 32],
-    read_places: &mut [u16; 32],
-    read_blocks: &mut [u32; 32],
-    write_keys: &mut [u16; 32],
-    write_kinds: &mut [u16; 32],
-    write_values: &mut [i64; 32],
+    read_keys: &mut [u16; layout::MOST_ENTRIES],
+    read_places: &mut [u16; layout::MOST_ENTRIES],
+    read_blocks: &mut [u32; layout::MOST_ENTRIES],
+    write_keys: &mut [u16; layout::MOST_ENTRIES],
+    write_kinds: &mut [u16; layout::MOST_ENTRIES],
+    write_values: &mut [i64; layout::MOST_ENTRIES],
 ) -> u64
-    ensures { λ r. ⌜ record { word = r; arrays = record { head = now (head .exit); readKeys = now («read_keys» .exit); readPlaces = now («read_places» .exit); readBlocks = now («read_blocks» .exit); writeKeys = now («write_keys» .exit); writeKinds = now («write_kinds» .exit); writeValues = now («write_values» .exit) } } ≡ pageLeft (now (page .entry)) (record { head = now (head .entry); readKeys = now («read_keys» .entry); readPlaces = now («read_places» .entry); readBlocks = now («read_blocks» .entry); writeKeys = now («write_keys» .entry); writeKinds = now («write_kinds» .entry); writeValues = now («write_values» .entry) }) ⌝ }
+    ensures { λ r. ⌜
+        record {
+          word = r;
+          arrays = record {
+            head = now (head .exit);
+            readKeys = now («read_keys» .exit);
+            readPlaces = now («read_places» .exit);
+            readBlocks = now («read_blocks» .exit);
+            writeKeys = now («write_keys» .exit);
+            writeKinds = now («write_kinds» .exit);
+            writeValues = now («write_values» .exit);
+          };
+        }
+        ≡ pageLeft (now (page .entry)) (record {
+          head = now (head .entry);
+          readKeys = now («read_keys» .entry);
+          readPlaces = now («read_places» .entry);
+          readBlocks = now («read_blocks» .entry);
+          writeKeys = now («write_keys» .entry);
+          writeKinds = now («write_kinds» .entry);
+          writeValues = now («write_values» .entry);
+        })
+        ⌝ }
 {
     let found = ledger::page::read::read_page(page);
     let check = found.check;
@@ -130,14 +166,26 @@ pub extern "C" fn nevolisca_write_page(
     batch: &mut [u8],
     index: usize,
     head: &[u32; 3],
-    read_keys: &[u16; 32],
-    read_places: &[u16; 32],
-    read_blocks: &[u32; 32],
-    write_keys: &[u16; 32],
-    write_kinds: &[u16; 32],
-    write_values: &[i64; 32],
+    read_keys: &[u16; layout::MOST_ENTRIES],
+    read_places: &[u16; layout::MOST_ENTRIES],
+    read_blocks: &[u32; layout::MOST_ENTRIES],
+    write_keys: &[u16; layout::MOST_ENTRIES],
+    write_kinds: &[u16; layout::MOST_ENTRIES],
+    write_values: &[i64; layout::MOST_ENTRIES],
 ) -> u64
-    ensures { λ r. ⌜ record { word = r; batch = now (batch .exit) } ≡ putLeft (writePage (now (batch .entry)) index (lentTx (record { head = now (head .entry); readKeys = now («read_keys» .entry); readPlaces = now («read_places» .entry); readBlocks = now («read_blocks» .entry); writeKeys = now («write_keys» .entry); writeKinds = now («write_kinds» .entry); writeValues = now («write_values» .entry) }))) ⌝ }
+    ensures { λ r. ⌜
+        record { word = r; batch = now (batch .exit) }
+        ≡ putLeft (writePage (now (batch .entry)) index
+        (lentTx (record {
+          head = now (head .entry);
+          readKeys = now («read_keys» .entry);
+          readPlaces = now («read_places» .entry);
+          readBlocks = now («read_blocks» .entry);
+          writeKeys = now («write_keys» .entry);
+          writeKinds = now («write_kinds» .entry);
+          writeValues = now («write_values» .entry);
+        })))
+        ⌝ }
 {
     let reads = arrays::reads_of(read_keys, read_places, read_blocks);
     let writes = arrays::writes_of(write_keys, write_kinds, write_values);
@@ -148,8 +196,5 @@ pub extern "C" fn nevolisca_write_page(
         reads,
         writes,
     };
-    match ledger::page::write::write_page(batch, index, t) {
-        PageWrite::Written => 0,
-        PageWrite::Unwritten { refusal } => refused(refusal),
-    }
+    answered(ledger::page::write::write_page(batch, index, t))
 }

@@ -32,7 +32,8 @@ pub fn le8(p: &[u8], at: usize) -> u64
     (le4(p, at) as u64) + (le4(p, at + 4) as u64) * 4294967296
 }
 
-// Whether a byte from `from` up to, not including, `to` is not zero: all are joined, and no byte ends the loop, so it is vector code.
+// Whether a byte from `from` up to, not including, `to` is not zero.
+// All are joined, and no byte ends the loop, so it is vector code.
 pub fn any_set(p: &[u8], from: usize, to: usize) -> bool
     requires { ⌜ (from ≤ to) × (to ≤ length (now p)) ⌝ }
     ensures { λ r. ⌜ r ≡ someIn (set? (now (p .entry))) from to ⌝ }
@@ -44,6 +45,18 @@ pub fn any_set(p: &[u8], from: usize, to: usize) -> bool
         i += 1;
     }
     all != 0
+}
+
+// Copies all bytes of `from`.
+pub fn copy(from: &[u8], to: &mut [u8])
+    requires { ⌜ length (now from) ≡ length (now to) ⌝ }
+    ensures { λ _. ⌜ now (to .exit) ≡ now (from .entry) ⌝ }
+{
+    let mut i = 0;
+    while i < from.len() {
+        to[i] = from[i];
+        i += 1;
+    }
 }
 
 // Writes `v` in the `n` bytes from `at` on.

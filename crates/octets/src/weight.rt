@@ -1,4 +1,4 @@
-// The check's sum over a page, by columns: rows of 48 bytes from the last to the first, whose 16-bit sums are vector code.
+// The check's sum over a page, by columns: rows of 48 bytes from the last to the first; 16-bit sums are vector code.
 ghost use mathlib.Core.Path.{_≡_};
 ghost use Prim.Native.Nat.{_+_, _≤_};
 ghost use lib.ListN.{length};
@@ -21,7 +21,9 @@ const STEP: u32 = 48;
 // One row more: the running sums take the sums, and the sums the row's bytes, so that a byte of row r is run r times.
 fn add_row(row: &[u8], sums: &mut [u16; COLUMNS], runs: &mut [u16; COLUMNS])
     requires { ⌜ Room (now row) (now sums) (now runs) ⌝ }
-    ensures { λ _. ⌜ Added (now (row .entry)) (now (sums .entry)) (now (runs .entry)) (now (sums .exit)) (now (runs .exit)) ⌝ }
+    ensures { λ _. ⌜
+        Added (now (row .entry)) (now (sums .entry)) (now (runs .entry)) (now (sums .exit)) (now (runs .exit))
+        ⌝ }
 {
     let mut c = 0;
     while c < COLUMNS {

@@ -3,7 +3,9 @@ use mathlib.Core.Bool.{Bool, true, false, not}
 use mathlib.Core.List.{List, [], _∷_, _++_, List·Memᴰ·head, List·Memᴰ·tail, List·Memᴰ·cases-cons}
 use mathlib.Core.Logic.{_⊎_, inl, inr, ⊎-elim}
 use mathlib.Core.Path.{_≡_, refl, sym, _∙_}
-use Prim.Native.Nat.{ℕ}
+use Prim.Native.Nat.{ℕ, suc, _+_, _≤_}
+use native.Mathlib.Omega.{arith}
+use lib.ListN.{length}
 use lib.Dec.{T, T-not, eqb}
 use Rattle.lists.specs.Choice.{pick}
 use Rattle.lists.specs.Members.{_∈_, distinct}
@@ -48,6 +50,14 @@ module _ (before : ℕ → ℕ → Bool) where
       (cyclic before (i ∷ kept))
       (λ c m. ⊎-elim inl (λ n. inr (List·Memᴰ·tail n)) (admit-from kept is m))
       (λ c m. ⊎-elim (λ n. ⊎-elim (λ e. inr (List·Memᴰ·head e)) inl (List·Memᴰ·cases-cons n)) (λ n. inr (List·Memᴰ·tail n)) (admit-from (i ∷ kept) is m))
+
+  pub admit-shorter : (kept is : List ℕ) → length (admit before kept is) ≤ length kept + length is
+  unfolding admit
+  admit-shorter kept [] = omega arith
+  admit-shorter kept (i ∷ is) =
+      by-test (λ (l : List ℕ). length l ≤ length kept + suc (length is)) (cyclic before (i ∷ kept))
+      (λ t. omega (arith, admit-shorter kept is))
+      (λ t. omega (arith, admit-shorter (i ∷ kept) is))
 
   pub admit-acyclic : (kept is : List ℕ) → (Cycle before kept → ⊥) → Cycle before (admit before kept is) → ⊥
   unfolding admit

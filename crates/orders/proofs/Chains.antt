@@ -1,6 +1,6 @@
 -- Laws of chains and cycles: the test for a cycle finds it, a forward order has none, and where there is none some one is free. Assumes nothing.
 use mathlib.Core.Bool.{Bool, not, _&&_}
-use mathlib.Core.List.{List, [], _∷_, _++_, List·Memᴰ·head, List·Memᴰ·tail, List·Memᴰ·cases-cons, List·Memᴰ·append-cases, List·Memᴰ·eq-of-singleton, Memᴰ·append-right}
+use mathlib.Core.List.{List, [], _∷_, _++_, List·Memᴰ·head, List·Memᴰ·tail, List·Memᴰ·cases-cons, List·Memᴰ·append-cases, Memᴰ·append-right}
 use mathlib.Core.Logic.{_⊎_, inl, inr, ⊎-elim, _↔_}
 use mathlib.Core.Path.{_≡_, refl, ap, subst}
 use lib.Dec.{T, T-not, not-T}
@@ -103,7 +103,7 @@ module _ {A : Type 0} (before : A → A → Bool) where
       back [] f = tt
       back (b ∷ l) f = both (all (λ a. not (before a b)) l) _ (all-in (λ a. not (before a b)) l (f [] b l refl)) (back l (λ xs c ys e. f (b ∷ xs) c ys (ap (λ z. b ∷ z) e)))
 
-  -- some of an order are one, and so is an order with one more at its end that need not stand before any
+  -- some of an order are one
   pub ordered-those : (p : A → Bool) (os : List A) → T (ordered before os) → T (ordered before (those p os))
   unfolding ordered
   ordered-those p [] t = tt
@@ -115,19 +115,6 @@ module _ {A : Type 0} (before : A → A → Bool) where
       (p b)
       (λ u. both (all (λ a. not (before a b)) (those p os)) _ (all-in (λ a. not (before a b)) (those p os) (λ x m. all-out (λ a. not (before a b)) os first (those-out p os m .0))) below)
       (λ u. below)
-
-  pub ordered-last : (os : List A) (a : A) → T (ordered before os) → ((x : A) → x ∈ os → T (not (before a x))) → T (ordered before (os ++ (a ∷ [])))
-  unfolding ordered
-  ordered-last [] a t f = tt
-  ordered-last (b ∷ os) a t f =
-      let first = and-left (all (λ x. not (before x b)) os) _ t in
-      both (all (λ x. not (before x b)) (os ++ (a ∷ []))) _
-      (all-in (λ x. not (before x b)) (os ++ (a ∷ []))
-      (λ x m. ⊎-elim
-      (λ k. all-out (λ x. not (before x b)) os first k)
-      (λ k. let e : x ≡ a = List·Memᴰ·eq-of-singleton k in rw e (f b (List·Memᴰ·head refl)))
-      (List·Memᴰ·append-cases os m)))
-      (ordered-last os a (and-right (all (λ x. not (before x b)) os) _ t) (λ x m. f x (List·Memᴰ·tail m)))
 
   -- two orders, one behind the other, where no one of the second must stand before one of the first
   pub ordered-append : (xs ys : List A) → T (ordered before xs) → T (ordered before ys) → ((x y : A) → x ∈ xs → y ∈ ys → T (not (before y x))) → T (ordered before (xs ++ ys))
@@ -250,10 +237,3 @@ module _ {A : Type 0} (before : A → A → Bool) where
   -- lists with the same members have a cycle together
   pub cyclic-alike : (ks ls : List A) → ((x : A) → x ∈ ks → x ∈ ls) → T (cyclic before ks) → T (cyclic before ls)
   cyclic-alike ks ls f t = cyclic-cycle ls .1 (cycle-mono f (cyclic-cycle ks .0 t))
-
-  -- no member is free of the others: there is a cycle
-  pub stuck-cyclic : (t : A) (us : List A) → ((x : A) → x ∈ (t ∷ us) → T (all (λ y. not (before y x)) (t ∷ us)) → ⊥) → T (cyclic before (t ∷ us))
-  stuck-cyclic t us f = ⊎-elim (λ c. c) (λ n. absurd (none n)) (decide (cyclic before (t ∷ us)))
-    where
-      none : T (not (cyclic before (t ∷ us))) → ⊥
-      none n = let w = free-one t us (λ c. T-not (cyclic before (t ∷ us)) n (cyclic-cycle (t ∷ us) .1 c)) in f (w .0) (w .1) (w .2)

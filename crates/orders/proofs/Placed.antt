@@ -1,14 +1,14 @@
 -- The schedule over labels that are ranks, one turn after the other: K holds those not yet placed. Assumes nothing.
-use mathlib.Core.Path.{_≡_, sym, ap, _∙_}
-use mathlib.Core.Bool.{Bool, true, not, _&&_}
+use mathlib.Core.Path.{_≡_, ap, _∙_}
+use mathlib.Core.Bool.{Bool, true, not}
 use mathlib.Core.List.{List, [], _∷_, List·Memᴰ·not-nil}
 use Prim.Native.Nat.{ℕ, suc, _+_, _-_, _≤_, _<_}
 use native.Mathlib.Omega.{arith}
 use lib.ListN.{length}
-use lib.Dec.{T, eqb}
-use Rattle.lists.specs.Members.{_∈_, those}
-use Rattle.lists.proofs.Tests.{is-true, is-false, of-true, and-parts, and-whole}
-use Rattle.lists.proofs.Membership.{all-in, all-out, those-in, those-out}
+use lib.Dec.{T}
+use Rattle.lists.specs.Members.{_∈_}
+use Rattle.lists.proofs.Tests.{is-false, of-true}
+use Rattle.lists.proofs.Membership.{all-in, all-out}
 use Rattle.orders.specs.Chain.{Cycle}
 use Rattle.orders.specs.Arrange.{without, free, schedule}
 use Rattle.orders.specs.Walk.{Holds, Free, Next}
@@ -40,13 +40,6 @@ module _ (before : ℕ → ℕ → Bool) {K : ℕ → Bool} {is : List ℕ} (h :
     where
       below : (y : ℕ) → Free before K y → p ≤ y
       below y f = let out : y < p → ⊥ = λ l. s .least y l f in omega arith
-
-  pub holds-without : (K′ : ℕ → Bool) (p : ℕ) → ((j : ℕ) → K′ j ≡ (K j && not (eqb p j))) → Holds K′ (without p is)
-  unfolding without
-  holds-without K′ p w = record {
-    listed = λ x e. let m = and-parts (K x) _ (sym (w x) ∙ e) in those-in (λ j. not (eqb p j)) is (h .listed x (m .0)) (of-true (not (eqb p x)) (m .1));
-    held = λ x m. let k = those-out (λ j. not (eqb p j)) is m in w x ∙ and-whole (K x) _ (h .held x (k .0)) (is-true (not (eqb p x)) (k .1));
-  }
 
 -- the schedule of what K holds, however listed
 pub schedule-held : (before : ℕ → ℕ → Bool) {K : ℕ → Bool} {is js : List ℕ} → Holds K is → Holds K js → schedule before (λ x. x) is ≡ schedule before (λ x. x) js

@@ -1,22 +1,21 @@
 -- Laws of relabelling: where r stands for the page f r, what is kept and scheduled of the labels stands for what is kept and scheduled of the pages. Assumes nothing.
 use mathlib.Core.Bool.{Bool, true, false, not, _&&_, _||_}
-use mathlib.Core.List.{List, [], _∷_, map, Permᴰ·refl, List·Memᴰ·head, List·Memᴰ·tail, List·Memᴰ·cases-cons}
+use mathlib.Core.List.{List, [], _∷_, map, List·Memᴰ·head, List·Memᴰ·tail, List·Memᴰ·cases-cons}
 use mathlib.Core.Logic.{_⊎_, ⊎-elim}
 use mathlib.Core.Path.{_≡_, refl, sym, ap, ap₂, _∙_}
 use Prim.Native.Nat.{ℕ, zero, suc, _<_, _≤_}
 use native.Mathlib.Nat.{eq-or-lt-of-le}
 use native.Mathlib.Omega.{arith}
 use lib.ListN.{length, length-map}
-use lib.Dec.{T, not-T, eqb, eqb-refl, eqb→eq, ltb, ltb→lt, lt→ltb, nltb→le}
+use lib.Dec.{T, eqb, eqb-refl, eqb→eq, ltb, ltb→lt, lt→ltb, nltb→le}
 use Rattle.lists.specs.Choice.{pick}
-use Rattle.lists.specs.Members.{_∈_, those, distinct, upto}
+use Rattle.lists.specs.Members.{_∈_, those}
 use Rattle.lists.proofs.Tests.{decide, same-test}
-use Rattle.lists.proofs.Membership.{any-map, any-same, all-map, all-same, those-map, those-same, those-out, upto-below}
-use Rattle.orders.specs.Chain.{joined, cyclic, ordered}
+use Rattle.lists.proofs.Membership.{any-map, any-same, all-map, all-same, those-map, those-same, those-out}
+use Rattle.orders.specs.Chain.{joined, cyclic}
 use Rattle.orders.specs.Admission.{admit}
-use Rattle.orders.specs.Arrange.{lowest, without, arrange, byTicket, free, schedule}
-use Rattle.orders.proofs.Chains.{ordered-last}
-use Rattle.orders.proofs.Arranged.{taken-in, without-sub, by-ticket-unique}
+use Rattle.orders.specs.Arrange.{lowest, without, arrange, free, schedule}
+use Rattle.orders.proofs.Arranged.{taken-in, without-sub}
 
 -- every member of ks is one of us
 abbrev pub Within : List ℕ → List ℕ → Type 0
@@ -116,10 +115,6 @@ module _ (f : ℕ → ℕ) (us : List ℕ) (rank ticket : ℕ → ℕ)
           rw (first, without-map x is m w)
           (ap (λ l. f x ∷ l) (below (without x is) (λ y k. w y (without-sub x is k))))
 
-  pub by-ticket-map : (is : List ℕ) → Within us is → byTicket ticket (map f is) ≡ map f (byTicket rank is)
-  unfolding byTicket
-  by-ticket-map is w = rw (length-map is f) (arrange-map (λ u i. true) (λ u i. true) (λ js x v m. refl) (length is) is w)
-
   module _ (E before : ℕ → ℕ → Bool) (agree : Agree f us E before) where
     pub schedule-map : (is : List ℕ) → Within us is → schedule before ticket (map f is) ≡ map f (schedule E rank is)
     unfolding schedule free
@@ -130,12 +125,6 @@ module _ (f : ℕ → ℕ) (us : List ℕ) (rank ticket : ℕ → ℕ)
         (length is) is w)
 
 -- ---- labels that are ranks: the higher of two has the page with the higher ticket
-
--- the first numbers rise
-pub upto-rises : (m : ℕ) → T (ordered (λ j i. ltb j i) (upto m))
-unfolding upto ordered
-upto-rises zero = tt
-upto-rises (suc m) = ordered-last (λ j i. ltb j i) (upto m) m (upto-rises m) (λ x n. not-T (ltb m x) (λ t. absurd (omega (arith, ltb→lt m x t, upto-below m n))))
 
 module _ (f ticket : ℕ → ℕ) (us : List ℕ) (rises : (r s : ℕ) → r ∈ us → s ∈ us → r < s → ticket (f r) < ticket (f s)) where
   rank-injective : (r s : ℕ) → r ∈ us → s ∈ us → f r ≡ f s → r ≡ s
@@ -152,12 +141,6 @@ module _ (f ticket : ℕ → ℕ) (us : List ℕ) (rises : (r s : ℕ) → r ∈
         where
           back : ticket (f r) < ticket (f s) → s ≤ r → ⊥
           back l k = ⊎-elim (λ e. omega (arith, ap (λ x. ticket (f x)) e)) (λ h. omega (arith, rises s r n m h)) (eq-or-lt-of-le k)
-
-  -- ranks that rise are their pages in ticket order
-  pub by-ticket-ranks : T (distinct us) → T (ordered (λ j i. ltb j i) us) → byTicket ticket (map f us) ≡ map f us
-  by-ticket-ranks d r =
-      by-ticket-map f us (λ x. x) ticket rank-injective rank-rises us (λ x m. m)
-      ∙ ap (map f) (by-ticket-unique (λ x. x) us us d (λ x y m n e. e) (Permᴰ·refl us) r)
 
   -- and their schedule, the lowest rank first, is their pages' schedule, the lowest ticket first
   pub schedule-ranks : (E before : ℕ → ℕ → Bool) → Agree f us E before → schedule before ticket (map f us) ≡ map f (schedule E (λ x. x) us)

@@ -26,18 +26,6 @@ module _ (before : ℕ → ℕ → Bool) where
   pub way-joined : {K : ℕ → Bool} {ks : List ℕ} → Holds K ks → (a b : ℕ) → Way before K a b ↔ T (joined before ks a b)
   way-joined {ks = ks} h a b = (λ p. chain-joined before (way-chain h p), λ t. chain-way h (joined-chain before ks a b t))
 
-  pub joined-yes : {K : ℕ → Bool} {ks : List ℕ} → Holds K ks → {a b : ℕ} → Way before K a b → joined before ks a b ≡ true
-  joined-yes {ks = ks} h {a} {b} p = is-true (joined before ks a b) (way-joined h a b .0 p)
-
-  pub joined-no : {K : ℕ → Bool} {ks : List ℕ} → Holds K ks → {a b : ℕ} → (Way before K a b → ⊥) → joined before ks a b ≡ false
-  joined-no {ks = ks} h {a} {b} f = no-true (joined before ks a b) (λ e. f (way-joined h a b .1 (of-true (joined before ks a b) e)))
-
-  pub yes-way : {K : ℕ → Bool} {ks : List ℕ} → Holds K ks → {a b : ℕ} → joined before ks a b ≡ true → Way before K a b
-  yes-way {ks = ks} h {a} {b} e = way-joined h a b .1 (of-true (joined before ks a b) e)
-
-  pub no-way : {K : ℕ → Bool} {ks : List ℕ} → Holds K ks → {a b : ℕ} → joined before ks a b ≡ false → Way before K a b → ⊥
-  no-way h e p = clash (sym (joined-yes h p) ∙ e)
-
   -- where ks has no cycle, t and ks have one exactly where a way leads from t back to t
   pub way-cyclic : {K : ℕ → Bool} {ks : List ℕ} → Holds K ks → (Cycle before ks → ⊥) → (t : ℕ) → Way before K t t ↔ T (cyclic before (t ∷ ks))
   way-cyclic {ks = ks} h f t = (

@@ -1,34 +1,28 @@
--- What planning answers: the steps of a plan in document 01's words, and the gate before them. Assumes nothing.
+-- What planning answers: the steps of a plan in document 01's words. Assumes nothing.
 use mathlib.Core.Path.{_≡_, sym, ap, ap₂, _∙_}
-use mathlib.Core.Bool.{Bool, true, false, _&&_, _||_}
+use mathlib.Core.Bool.{Bool, _&&_}
 use mathlib.Core.List.{List, [], _++_, map}
-use mathlib.Core.Logic.{_⊎_, inl, inr}
 use Prim.Native.Nat.{ℕ, _*_, _^_, _≤_, _<_}
-use native.Mathlib.Nat.{mul-comm}
 use native.Mathlib.Omega.{arith}
-use borrow.Author.Tests.{lt-ltb, ltb-false}
+use borrow.Author.Tests.{lt-ltb}
 use lib.Dec.{T, eqb, ltb}
 use lib.ListN.{length, take, drop}
 use Rattle.lists.specs.Choice.{pick}
 use Rattle.lists.specs.Members.{any, those, upto, distinct}
 use Rattle.lists.proofs.Membership.{those-same, distinct-those, perm-distinct, upto-below, upto-distinct}
-use Rattle.refusals.specs.Outcome.{Outcome, gives, refuses}
-use Rattle.refusals.specs.Fault.{clear}
-use Rattle.refusals.proofs.Rows.{judged-gives, judged-refuses}
+use Rattle.refusals.specs.Outcome.{gives}
 use Rattle.orders.specs.Walk.{Holds}
 use Rattle.orders.specs.Admission.{admit}
 use Rattle.orders.specs.Arrange.{byTicket, schedule}
 use Rattle.orders.proofs.Arranged.{by-ticket-perm}
 use Rattle.sets.specs.Set.{member, members}
 use Rattle.lists.specs.Tables.{tab}
-use Rattle.ledger.specs.State.{State, keys}
-use Rattle.ledger.specs.Gate.{pages, txAt, gateFault, gate, Batch}
+use Rattle.ledger.specs.declared.Version.{Version}
+use Rattle.ledger.specs.Gate.{pages, txAt, Batch}
 use Rattle.lists.proofs.Tables.{tab-same}
-use Rattle.ledger.proofs.Faults.{or-none}
-use Rattle.ledger.proofs.Gated.{Through, gate-open}
-use Rattle.planner.specs.declared.Planned.the-variants.{Kept}
-use Rattle.planner.specs.Ranks.{demands, nth, Sound, Differ, Ranked}
-use Rattle.planner.specs.Plan.{current, before, sequence, kept, verdict, order, gathered, Plans, plans, short, planBatch, planned}
+use Rattle.refusals.specs.declared.Answer.the-variants.{Count}
+use Rattle.planner.specs.Ranks.{demands, nth, Sound, Ranked}
+use Rattle.planning.specs.Plan.{current, before, sequence, kept, verdict, order, gathered, Plans, plans, planned}
 use Rattle.planner.proofs.Joined.{Lined, lined-different, order-is, filled-many, filled-front, scheduled}
 
 -- ---- what the steps ask of one another
@@ -53,17 +47,17 @@ abbrev outcome : ℕ → List ℕ → List ℕ → List ℕ → Plans
 outcome k vs os out = record { answer = gives k; verdicts = vs; order = os; out = out }
 
 module _
-    (batch : List ℕ) (s : State) (m set : ℕ) (whole : length batch ≡ m * 512)
-    (told : (i : ℕ) → member set i ≡ (ltb i m && current s (txAt batch) i)) where
+    (batch : List ℕ) (held : ℕ → Version) (m set : ℕ) (whole : length batch ≡ m * 512)
+    (told : (i : ℕ) → member set i ≡ (ltb i m && current held (txAt batch) i)) where
   -- the set has those below m that are current
-  is-current : (i : ℕ) → i < m → member set i ≡ current s (txAt batch) i
-  is-current i h = told i ∙ ap (λ x. x && current s (txAt batch) i) (lt-ltb i m h)
+  is-current : (i : ℕ) → i < m → member set i ≡ current held (txAt batch) i
+  is-current i h = told i ∙ ap (λ x. x && current held (txAt batch) i) (lt-ltb i m h)
 
-  sequence-is : byTicket (λ i. txAt batch i .ticket) (those (member set) (upto m)) ≡ sequence s (txAt batch) m
+  sequence-is : byTicket (λ i. txAt batch i .ticket) (those (member set) (upto m)) ≡ sequence held (txAt batch) m
   unfolding sequence
-  sequence-is = ap (byTicket (λ i. txAt batch i .ticket)) (those-same (member set) (current s (txAt batch)) (upto m) (λ i k. is-current i (upto-below m k)))
+  sequence-is = ap (byTicket (λ i. txAt batch i .ticket)) (those-same (member set) (current held (txAt batch)) (upto m) (λ i k. is-current i (upto-below m k)))
 
-  once : T (distinct (sequence s (txAt batch) m))
+  once : T (distinct (sequence held (txAt batch) m))
   once =
       let d = distinct-those (member set) (upto m) (upto-distinct m) in
       rw (← sequence-is) (perm-distinct (by-ticket-perm (λ i. txAt batch i .ticket) (those (member set) (upto m)) d) d)
@@ -72,98 +66,48 @@ module _
       (ps blockers : List ℕ) (c left k placed : ℕ) (vs os out vs′ os′ out′ : List ℕ)
       (l : Lined (λ i. txAt batch i .ticket) (member set) m ps c)
       (agree : (r s : ℕ) → r < c → s < c → demands blockers r s ≡ before (txAt batch) (nth ps r) (nth ps s))
-      (small : left < 2 ^ 64) (held : Holds (member left) (admit (demands blockers) [] (upto c)))
+      (small : left < 2 ^ 64) (inside : Holds (member left) (admit (demands blockers) [] (upto c)))
       (count : k ≡ length (members left 64))
       (filled : os′ ≡ map (nth ps) (schedule (demands blockers) (λ x. x) (members left 64)) ++ drop k os)
       (listed : (i : ℕ) → member placed i ≡ any (eqb i) (take k os′))
       (judged : vs′ ≡ tab m (λ i. pick (member set i) (pick (member placed i) 0 2) 1) ++ drop m vs)
       (copied : out′ ≡ gathered batch (take k os′) ++ drop (512 * k) out) where
-    order-of : map (nth ps) (schedule (demands blockers) (λ x. x) (members left 64)) ≡ order (txAt batch) (sequence s (txAt batch) m)
+    order-of : map (nth ps) (schedule (demands blockers) (λ x. x) (members left 64)) ≡ order (txAt batch) (sequence held (txAt batch) m)
     unfolding order kept
     order-of =
-        order-is (demands blockers) c left small held (before (txAt batch)) (λ i. txAt batch i .ticket) (member set) m ps l agree
+        order-is (demands blockers) c left small inside (before (txAt batch)) (λ i. txAt batch i .ticket) (member set) m ps l agree
         ∙ ap (λ q. schedule (before (txAt batch)) (λ i. txAt batch i .ticket) (admit (before (txAt batch)) [] q)) sequence-is
 
-    front : take k os′ ≡ order (txAt batch) (sequence s (txAt batch) m)
-    front = filled-front (demands blockers) c left small held (λ i. txAt batch i .ticket) (member set) m ps l k os os′ count filled ∙ order-of
+    front : take k os′ ≡ order (txAt batch) (sequence held (txAt batch) m)
+    front = filled-front (demands blockers) c left small inside (λ i. txAt batch i .ticket) (member set) m ps l k os os′ count filled ∙ order-of
 
-    many : k ≡ length (order (txAt batch) (sequence s (txAt batch) m))
-    many = sym (filled-many (demands blockers) c left small held (λ i. txAt batch i .ticket) (member set) m ps l k os os′ count filled) ∙ ap length order-of
+    many : k ≡ length (order (txAt batch) (sequence held (txAt batch) m))
+    many = sym (filled-many (demands blockers) c left small inside (λ i. txAt batch i .ticket) (member set) m ps l k os os′ count filled) ∙ ap length order-of
 
-    verdict-of : (i : ℕ) → i < m → judge (member set i) (member placed i) ≡ verdict s (txAt batch) (sequence s (txAt batch) m) i
+    verdict-of : (i : ℕ) → i < m → judge (member set i) (member placed i) ≡ verdict held (txAt batch) (sequence held (txAt batch) m) i
     unfolding verdict order kept
     verdict-of i h =
         ap₂ judge (is-current i h)
-        (listed i ∙ ap (any (eqb i)) front ∙ scheduled (before (txAt batch)) (λ i. txAt batch i .ticket) (sequence s (txAt batch) m) once i)
+        (listed i ∙ ap (any (eqb i)) front ∙ scheduled (before (txAt batch)) (λ i. txAt batch i .ticket) (sequence held (txAt batch) m) once i)
 
     pages-of : m ≡ pages batch
     pages-of = omega (arith, whole)
 
-    verdicts-of : vs′ ≡ tab (pages batch) (verdict s (txAt batch) (sequence s (txAt batch) m)) ++ drop (pages batch) vs
+    verdicts-of : vs′ ≡ tab (pages batch) (verdict held (txAt batch) (sequence held (txAt batch) m)) ++ drop (pages batch) vs
     verdicts-of =
         judged
-        ∙ ap (λ x. x ++ drop m vs) (tab-same (λ i. judge (member set i) (member placed i)) (verdict s (txAt batch) (sequence s (txAt batch) m)) m verdict-of)
-        ∙ ap (λ n. tab n (verdict s (txAt batch) (sequence s (txAt batch) m)) ++ drop n vs) pages-of
+        ∙ ap (λ x. x ++ drop m vs) (tab-same (λ i. judge (member set i) (member placed i)) (verdict held (txAt batch) (sequence held (txAt batch) m)) m verdict-of)
+        ∙ ap (λ n. tab n (verdict held (txAt batch) (sequence held (txAt batch) m)) ++ drop n vs) pages-of
 
-    orders-of : os′ ≡ order (txAt batch) (sequence s (txAt batch) m) ++ drop (length (order (txAt batch) (sequence s (txAt batch) m))) os
+    orders-of : os′ ≡ order (txAt batch) (sequence held (txAt batch) m) ++ drop (length (order (txAt batch) (sequence held (txAt batch) m))) os
     orders-of = filled ∙ ap₂ (λ x n. x ++ drop n os) order-of many
 
-    out-of : out′ ≡ gathered batch (order (txAt batch) (sequence s (txAt batch) m)) ++ drop (512 * length (order (txAt batch) (sequence s (txAt batch) m))) out
+    out-of : out′ ≡ gathered batch (order (txAt batch) (sequence held (txAt batch) m)) ++ drop (512 * length (order (txAt batch) (sequence held (txAt batch) m))) out
     out-of = copied ∙ ap₂ (λ x n. gathered batch x ++ drop (512 * n) out) front many
 
     -- rules 1 to 4
-    pub plan-made : planned (Kept k) vs′ os′ out′ ≡ plans batch s (sequence s (txAt batch) m) vs os out
+    pub plan-made : planned (Count k) vs′ os′ out′ ≡ plans batch held (sequence held (txAt batch) m) vs os out
     unfolding plans
     plan-made =
         ap₂ (λ n x. outcome n x os′ out′) many verdicts-of
-        ∙ ap₂ (λ x y. outcome (length (order (txAt batch) (sequence s (txAt batch) m))) (tab (pages batch) (verdict s (txAt batch) (sequence s (txAt batch) m)) ++ drop (pages batch) vs) x y) orders-of out-of
-
--- ---- the gate before it
-
--- a test that is asked only where the first one fails
-pub or-joined : (p q r : Bool) → ((p ≡ true) × (r ≡ p)) ⊎ ((p ≡ false) × (r ≡ q)) → r ≡ (p || q)
-or-joined p q r (inl w) = w .1 ∙ w .0 ∙ sym (ap (λ x. x || q) (w .0))
-or-joined p q r (inr w) = w .1 ∙ sym (ap (λ x. x || q) (w .0))
-
-module _ (batch : List ℕ) (s : State) (n : ℕ) (vs os out : List ℕ) where
-  -- the gate, asked whether a lent list is too short
-  abbrev pub asked : Outcome ℕ
-  asked = gate (short batch vs os out) batch s n
-
-  pub plan-asked : (m : ℕ) (b : Bool) (r : Outcome ℕ) → m ≡ pages batch → b ≡ ((ltb (length vs) m || ltb (length os) m) || ltb (length out) (m * 512)) → r ≡ gate b batch s n → r ≡ asked
-  plan-asked m b r e f g = g ∙ ap (λ x. gate x batch s n) (f ∙ rw (e, mul-comm (pages batch) 512))
-
-  pub plan-refused : (number place : ℕ) → refuses number place ≡ asked → record { answer = refuses number place; verdicts = vs; order = os; out = out } ≡ planBatch batch s n vs os out
-  unfolding gate planBatch
-  plan-refused number place e = rw (judged-refuses (gateFault (short batch vs os out) batch s n) number place (pages batch) e, planBatch)
-
-  module _ (m : ℕ) (let-in : gives m ≡ asked) where
-    clear-is : (gateFault (short batch vs os out) batch s n ≡ clear) × (m ≡ pages batch)
-    unfolding gate
-    clear-is = judged-gives (gateFault (short batch vs os out) batch s n) m (pages batch) let-in
-
-    through : Through (short batch vs os out) batch s n
-    through = gate-open (short batch vs os out) batch s n (clear-is .0)
-
-    pub plan-ready : Batch (keys s) batch m
-    plan-ready = rw (clear-is .1) (through .ready)
-
-    pub plan-level : length (s .places) ≡ length (s .blocks)
-    plan-level = through .level .places
-
-    pub plan-differ : Differ batch m
-    plan-differ = rw (clear-is .1) (through .differ)
-
-    pub plan-long : (m ≤ length vs) × (m ≤ length os) × (m * 512 ≤ length out)
-    plan-long =
-        let a = or-none (ltb (length vs) (pages batch) || ltb (length os) (pages batch)) _ (through .long) in
-        let f = or-none (ltb (length vs) (pages batch)) _ (a .0) in
-        let e = clear-is .1 in
-        let x = ltb-false (length vs) (pages batch) (f .0) in
-        let y = ltb-false (length os) (pages batch) (f .1) in
-        let z = ltb-false (length out) (512 * pages batch) (a .1) in
-        (omega arith, omega arith, omega arith)
-
-    pub plan-taken : plans batch s (sequence s (txAt batch) m) vs os out ≡ planBatch batch s n vs os out
-    unfolding planBatch
-    plan-taken = ap (λ k. plans batch s (sequence s (txAt batch) k) vs os out) (clear-is .1) ∙ rw (clear-is .0, planBatch)
+        ∙ ap₂ (λ x y. outcome (length (order (txAt batch) (sequence held (txAt batch) m))) (tab (pages batch) (verdict held (txAt batch) (sequence held (txAt batch) m)) ++ drop (pages batch) vs) x y) orders-of out-of

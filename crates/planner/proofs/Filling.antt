@@ -1,23 +1,24 @@
 -- What a plan leaves in the lent lists, filled from the front: what is known at each turn. Assumes nothing.
 use mathlib.Core.Path.{_≡_, refl, sym, ap, ap₂, _∙_}
 use mathlib.Core.Bool.{Bool, true, false, not, _||_}
-use mathlib.Core.List.{List, [], _∷_, _++_, append-assoc, append-nil}
-use Prim.Native.Nat.{ℕ, zero, suc, _+_, _-_, _*_, _≤_, _<_}
+use mathlib.Core.List.{List, [], _∷_, _++_, append-assoc, append-nil, List·Memᴰ·head, List·Memᴰ·tail}
+use Prim.Native.Nat.{ℕ, suc, _+_, _-_, _*_, _≤_, _<_}
 use native.Mathlib.Numerals.{add-one}
 use native.Mathlib.Omega.{arith}
 use lib.Dec.{eqb, eqb→eq, eqb-refl}
 use lib.ListN.{length, getD, take, drop, set, length-append, length-take, length-drop}
-use lib.Seq.{take-length, drop-length, length-take-le, take-suc, drop-cons, drop-drop, set-at, take-at, drop-at}
+use lib.Seq.{length-take-le, take-suc, drop-cons, drop-drop, getD-take, set-at, take-at, drop-at}
 use Rattle.lists.specs.Choice.{pick}
-use Rattle.lists.specs.Members.{any}
+use Rattle.lists.specs.Members.{_∈_, any}
 use Rattle.lists.proofs.Tests.{clash, same-test}
+use Rattle.lists.proofs.Membership.{in-at}
 use Rattle.lists.specs.Tables.{tab}
 use Rattle.ledger.specs.Page.{pageAt}
 use Rattle.lists.proofs.Tables.{length-tab}
-use Rattle.ledger.proofs.Gated.{lent}
+use Rattle.ledger.proofs.Gated.{page-long}
 use Rattle.ledger.proofs.Placed.{part-back}
 use Rattle.planner.specs.Ranks.{nth}
-use Rattle.planner.specs.Plan.{gathered}
+use Rattle.planning.specs.Plan.{gathered}
 
 -- ---- tests
 
@@ -63,21 +64,6 @@ fills f i old h =
 pub fills-long : (f : ℕ → ℕ) (i : ℕ) (old : List ℕ) → i ≤ length old → length (tab i f ++ drop i old) ≡ length old
 fills-long f i old h = simp (length-append, length-tab, length-drop) (omega arith)
 
-pub copies : (i : ℕ) (xs old : List ℕ) → i < length xs → i < length old → set (take i xs ++ drop i old) i (getD xs i 0) ≡ take (i + 1) xs ++ drop (i + 1) old
-copies i xs old h l =
-    ap (λ r. set (take i xs ++ r) i (getD xs i 0)) (drop-cons old i 0 l)
-    ∙ set-at (take i xs) (getD old i 0) (drop (suc i) old) (getD xs i 0) i (length-take-le i xs (omega arith))
-    ∙ rw (add-one, take-suc xs i 0 h, append-assoc)
-
-pub copies-long : (i : ℕ) (xs old : List ℕ) → length xs ≡ length old → length (take i xs ++ drop i old) ≡ length old
-copies-long i xs old h = simp (length-append, length-take, length-drop) (omega arith)
-
-pub copied : (i : ℕ) (xs old new : List ℕ) → i ≡ length xs → i ≡ length old → new ≡ take i xs ++ drop i old → new ≡ xs
-copied i xs old new h l e =
-    let front : take i xs ≡ xs = ap (λ n. take n xs) h ∙ take-length xs in
-    let none : drop i old ≡ [] = ap (λ n. drop n old) l ∙ drop-length old in
-    e ∙ ap₂ (λ a b. a ++ b) front none ∙ append-nil xs
-
 -- ---- pages after one another
 
 gathered-append : (batch is js : List ℕ) → gathered batch (is ++ js) ≡ gathered batch is ++ gathered batch js
@@ -85,42 +71,48 @@ unfolding gathered
 gathered-append batch [] js = refl
 gathered-append batch (i ∷ is) js = rw append-assoc (ap (λ l. pageAt batch i ++ l) (gathered-append batch is js))
 
+-- as many bytes as pages of 512
+pub gathered-long :
+    (batch is : List ℕ) → ((i : ℕ) → i ∈ is → i * 512 + 512 ≤ length batch) → length (gathered batch is) ≡ length is * 512
+unfolding gathered
+gathered-long batch [] f = refl
+gathered-long batch (i ∷ is) f =
+    let a = page-long batch i (f i (List·Memᴰ·head refl)) in
+    let b = gathered-long batch is (λ j m. f j (List·Memᴰ·tail m)) in
+    length-append (pageAt batch i) (gathered batch is) ∙ omega arith
+
 module _ (batch order : List ℕ) (k : ℕ) (long : k ≤ length order) (inside : (j : ℕ) → j < k → nth order j * 512 + 512 ≤ length batch) where
   pub gathered-next : (j : ℕ) → j < k → gathered batch (take (j + 1) order) ≡ gathered batch (take j order) ++ pageAt batch (nth order j)
   unfolding gathered
   gathered-next j h = rw (add-one, take-suc order j 0 (omega arith)) (gathered-append batch (take j order) (nth order j ∷ []) ∙ ap (λ l. gathered batch (take j order) ++ l) (append-nil (pageAt batch (nth order j))))
 
-  page-long : (j : ℕ) → j < k → length (pageAt batch (nth order j)) ≡ 512
-  page-long j h = simp (length-take, length-drop) (omega (arith, inside j h))
-
-  pub gathered-long : (j : ℕ) → j ≤ k → length (gathered batch (take j order)) ≡ j * 512
-  unfolding gathered
-  gathered-long zero h = refl
-  gathered-long (suc j) h =
-      ap (λ x. length (gathered batch (take x order))) (sym (add-one j))
-      ∙ ap length (gathered-next j (omega arith))
-      ∙ length-append (gathered batch (take j order)) (pageAt batch (nth order j))
-      ∙ omega (arith, gathered-long j (omega arith), page-long j (omega arith))
+  front-long : (j : ℕ) → j ≤ k → length (gathered batch (take j order)) ≡ j * 512
+  front-long j h =
+      let size : length (take j order) ≡ j = length-take-le j order (omega arith) in
+      gathered-long batch (take j order) (λ i m. within size m) ∙ ap (λ n. n * 512) size
+    where
+      within : length (take j order) ≡ j → {i : ℕ} → i ∈ take j order → i * 512 + 512 ≤ length batch
+      within size m =
+          let w = in-at (take j order) 0 m in
+          let l : w .0 < j = omega (arith, w .1) in
+          rw (w .2 ∙ getD-take j order (w .0) 0 l) (inside (w .0) (omega arith))
 
   -- one more page
   pub gathers :
       (j : ℕ) (out old ys : List ℕ) → j < k → out ≡ gathered batch (take j order) ++ drop (512 * j) old →
-      ys ≡ take (nth order j * 512 + 512 - nth order j * 512) (drop (nth order j * 512) batch) →
+      ys ≡ pageAt batch (nth order j) →
       take (j * 512) out ++ (ys ++ drop (j * 512 + 512 - j * 512) (drop (j * 512) out)) ≡ gathered batch (take (j + 1) order) ++ drop (512 * (j + 1)) old
   gathers j out old ys h e f =
       part-back out ys (j * 512)
-      ∙ ap₂ (λ a b. a ++ b) front (ap₂ (λ a b. a ++ b) page rest)
+      ∙ ap₂ (λ a b. a ++ b) front (ap₂ (λ a b. a ++ b) f rest)
       ∙ sym (append-assoc (gathered batch (take j order)) (pageAt batch (nth order j)) (drop (512 * (j + 1)) old))
       ∙ ap (λ l. l ++ drop (512 * (j + 1)) old) (sym (gathered-next j h))
     where
       front : take (j * 512) out ≡ gathered batch (take j order)
-      front = rw e (take-at (gathered batch (take j order)) (drop (512 * j) old) (j * 512) (gathered-long j (omega arith)))
-
-      page : ys ≡ pageAt batch (nth order j)
-      page = f ∙ lent batch (nth order j)
+      front = rw e (take-at (gathered batch (take j order)) (drop (512 * j) old) (j * 512) (front-long j (omega arith)))
 
       behind : drop (j * 512) out ≡ drop (512 * j) old
-      behind = rw e (drop-at (gathered batch (take j order)) (drop (512 * j) old) (j * 512) (gathered-long j (omega arith)))
+      behind = rw e (drop-at (gathered batch (take j order)) (drop (512 * j) old) (j * 512) (front-long j (omega arith)))
 
       rest : drop (j * 512 + 512) out ≡ drop (512 * (j + 1)) old
       rest =
@@ -129,4 +121,4 @@ module _ (batch order : List ℕ) (k : ℕ) (long : k ≤ length order) (inside 
 
   pub gathers-long : (j : ℕ) (out old : List ℕ) → j ≤ k → k * 512 ≤ length old → out ≡ gathered batch (take j order) ++ drop (512 * j) old → length out ≡ length old
   gathers-long j out old h l e =
-      ap length e ∙ length-append (gathered batch (take j order)) (drop (512 * j) old) ∙ omega (arith, gathered-long j h, length-drop (512 * j) old)
+      ap length e ∙ length-append (gathered batch (take j order)) (drop (512 * j) old) ∙ omega (arith, front-long j h, length-drop (512 * j) old)

@@ -1,6 +1,6 @@
 -- The steps of a plan joined: ranks stand for pages, sets for lists, so that what the steps leave is what document 01 says. Assumes nothing.
 use mathlib.Core.Path.{_≡_, refl, sym, ap, ap₂, _∙_}
-use mathlib.Core.Bool.{Bool, true, false, not}
+use mathlib.Core.Bool.{Bool, false, not}
 use mathlib.Core.List.{List, [], _∷_, _++_, map, map-append, List·Memᴰ·not-nil, List·Memᴰ·head, List·Memᴰ·tail, List·Permᴰ, Permᴰ·symm}
 use mathlib.Core.Logic.{⊎-elim}
 use Prim.Native.Nat.{ℕ, zero, suc, _+_, _^_, _≤_, _<_}
@@ -8,16 +8,17 @@ use native.Mathlib.Omega.{arith}
 use lib.Dec.{T, eqb, ltb, nltb→le}
 use lib.ListN.{length, getD, take, drop, length-take, length-map, List·getD-append}
 use lib.Seq.{take-suc, getD-take, take-at}
-use Rattle.lists.specs.Choice.{pick}
 use Rattle.lists.specs.Members.{_∈_, any, all, those, upto, distinct}
-use Rattle.lists.proofs.Tests.{both, and-left, and-right, of-true, no-true, same-test, differ}
-use Rattle.lists.proofs.Membership.{any-in, any-out, all-in, all-out, getD-in, those-out, those-shorter, map-out, apart, rest, perm-in, perm-length, perm-distinct, distinct-those, upto-below, upto-distinct, upto-length}
+use Rattle.lists.proofs.Tests.{both, and-left, and-right, of-true, no-true, same-test}
+use Rattle.lists.proofs.Membership.{any-in, any-out, all-in, all-out, getD-in, those-out, those-shorter, map-out}
+use Rattle.lists.proofs.Membership.{perm-in, perm-length, distinct-at, perm-distinct, distinct-those}
+use Rattle.lists.proofs.Membership.{upto-below, upto-distinct, upto-length}
 use Rattle.orders.specs.Chain.{ordered, cyclic, Cycle}
 use Rattle.orders.specs.Walk.{Holds}
 use Rattle.orders.specs.Admission.{admit}
 use Rattle.orders.specs.Arrange.{byTicket, schedule, free, Tickets}
 use Rattle.orders.proofs.Chains.{cyclic-cycle, cyclic-alike}
-use Rattle.orders.proofs.Admitted.{admit-from, admit-acyclic, admit-distinct}
+use Rattle.orders.proofs.Admitted.{admit-from, admit-shorter, admit-acyclic, admit-distinct}
 use Rattle.orders.proofs.Arranged.{arrange-sub, by-ticket-perm, by-ticket-rises, by-ticket-unique, schedule-order}
 use Rattle.orders.proofs.Placed.{schedule-held}
 use Rattle.orders.proofs.Relabelled.{admit-map, schedule-ranks}
@@ -40,13 +41,6 @@ ordered-at R (o ∷ os) zero (suc j) h l t = all-out (λ a. not (R a o)) os (and
 ordered-at R (o ∷ os) (suc i) zero h l t = absurd (omega arith)
 ordered-at R (o ∷ os) (suc i) (suc j) h l t = ordered-at R os i j (omega arith) (omega arith) (and-right (all (λ a. not (R a o)) os) _ t)
 
-distinct-at : (os : List ℕ) (i j : ℕ) → i < j → j < length os → T (distinct os) → getD os i 0 ≡ getD os j 0 → ⊥
-distinct-at [] i j h l t = absurd (omega arith)
-distinct-at (o ∷ os) zero zero h l t = absurd (omega arith)
-distinct-at (o ∷ os) zero (suc j) h l t = differ o (getD os j 0) (apart o os t (getD-in os j 0 (omega arith)))
-distinct-at (o ∷ os) (suc i) zero h l t = absurd (omega arith)
-distinct-at (o ∷ os) (suc i) (suc j) h l t = distinct-at os i j (omega arith) (omega arith) (rest o os t)
-
 ordered-same : (R S : ℕ → ℕ → Bool) (os : List ℕ) → ((x y : ℕ) → x ∈ os → y ∈ os → R x y ≡ S x y) → T (ordered R os) → T (ordered S os)
 unfolding ordered
 ordered-same R S [] h t = tt
@@ -60,18 +54,6 @@ any-perm p xs ys q =
     same-test (any p xs) (any p ys)
     (λ t. let w = any-out p xs t in any-in p ys (perm-in q (w .1)) (w .2))
     (λ t. let w = any-out p ys t in any-in p xs (perm-in (Permᴰ·symm q) (w .1)) (w .2))
-
-pub admit-shorter : (before : ℕ → ℕ → Bool) (kept is : List ℕ) → length (admit before kept is) ≤ length kept + length is
-unfolding admit
-admit-shorter before kept [] = omega arith
-admit-shorter before kept (i ∷ is) =
-    go (cyclic before (i ∷ kept)) (admit-shorter before kept is) (admit-shorter before (i ∷ kept) is)
-  where
-    go :
-        (b : Bool) → length (admit before kept is) ≤ length kept + length is → length (admit before (i ∷ kept) is) ≤ suc (length kept) + length is →
-        length (pick b (admit before kept is) (admit before (i ∷ kept) is)) ≤ length kept + suc (length is)
-    go true out more = omega arith
-    go false out more = omega arith
 
 -- ---- ranks stand for pages
 
@@ -127,7 +109,7 @@ module _
       let up : t (nth pages r) ≤ t (nth pages s) =
       nltb→le (t (nth pages s)) (t (nth pages r)) (rw (er, es) at (ordered-at (λ j i. ltb (t j) (t i)) (take c pages) r s h (omega arith) risen)) in
       let other : t (nth pages r) ≡ t (nth pages s) → ⊥ =
-      λ e. distinct-at (take c pages) r s h (omega arith) (perm-distinct perm once)
+      λ e. distinct-at (take c pages) (perm-distinct perm once) r s h (omega arith)
       (er ∙ one-ticket t t K m (λ i l. refl) apart _ _ (perm-in (Permᴰ·symm perm) (at r (omega arith))) (perm-in (Permᴰ·symm perm) (at s l)) e ∙ sym es) in
       omega arith
 

@@ -1,7 +1,6 @@
 pub mod Answered
 pub mod Candidates
 pub mod Demanding
-pub mod Few
 pub mod Filling
 pub mod Joined
 pub mod Placing

@@ -1,2 +1,1 @@
 pub mod Ranks
-pub mod Plan

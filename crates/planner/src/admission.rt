@@ -1,4 +1,5 @@
 // Rule 3: who is kept, by rank. `blockers` has for each rank the set of those that must stand before it.
+use ledger::layout;
 ghost use mathlib.Core.Path.{_≡_};
 ghost use mathlib.Core.Bool.{true};
 ghost use mathlib.Core.Logic.{_↔_};
@@ -11,7 +12,7 @@ ghost use Rattle.sets.specs.Set.{member};
 ghost use Rattle.planner.specs.Ranks.{demands, Awaits};
 
 // Whether demands lead from t back to t by way of the kept: a walk from t to those that must stand before it, and on.
-fn leads_back(blockers: &[u64; 64], kept: u64, t: usize) -> bool
+fn leads_back(blockers: &[u64; layout::MOST_PAGES], kept: u64, t: usize) -> bool
     requires { ⌜ t < 64 ⌝ }
     ensures { λ r. ⌜ ((r ≡ true) ↔ Way (demands (now (blockers .entry))) (member kept) t t) ⌝ }
 {
@@ -32,8 +33,9 @@ fn leads_back(blockers: &[u64; 64], kept: u64, t: usize) -> bool
     }
 }
 
-// Whether t closes a cycle with the kept: only one that t itself or a kept one waits for can. `awaited` has all that a kept one waits for.
-fn closes_cycle(blockers: &[u64; 64], kept: u64, awaited: u64, t: usize) -> bool
+// Whether t closes a cycle with the kept: only one that t itself or a kept one waits for can.
+// `awaited` has all that a kept one waits for.
+fn closes_cycle(blockers: &[u64; layout::MOST_PAGES], kept: u64, awaited: u64, t: usize) -> bool
     requires { ⌜ t < 64 ⌝ }
     requires { ⌜ Awaits (now blockers) kept awaited ⌝ }
     ensures { λ r. ⌜ ((r ≡ true) ↔ Way (demands (now (blockers .entry))) (member kept) t t) ⌝ }
@@ -45,7 +47,7 @@ fn closes_cycle(blockers: &[u64; 64], kept: u64, awaited: u64, t: usize) -> bool
 }
 
 // The kept among the first `count` ranks, taken in rising order.
-pub fn admitted(blockers: &[u64; 64], count: usize) -> u64
+pub fn admitted(blockers: &[u64; layout::MOST_PAGES], count: usize) -> u64
     requires { ⌜ count ≤ 64 ⌝ }
     ensures { λ r. ⌜ Holds (member r) (admit (demands (now (blockers .entry))) [] (upto count)) ⌝ }
 {

@@ -1,5 +1,5 @@
 // Rule 2: who must stand before whom. Pages are named by their rank in ticket order; `pages` has the page of each rank.
-use ledger::page::check;
+use ledger::layout;
 use ledger::page::held;
 ghost use mathlib.Core.Path.{_≡_};
 ghost use mathlib.Core.Bool.{not, _&&_, _||_};
@@ -9,16 +9,21 @@ ghost use lib.Dec.{eqb, ltb};
 ghost use Rattle.lists.specs.Members.{any};
 ghost use Rattle.sets.specs.Set.{member};
 ghost use Rattle.refusals.specs.Fault.{clear};
+ghost use Rattle.ledger.specs.Tx.{keysWritten, reader};
 ghost use Rattle.ledger.specs.Page.{pageTx, pageFault};
 ghost use Rattle.ledger.specs.Gate.{txAt};
 ghost use Rattle.planner.specs.Ranks.{demands, nth, Ranked};
-ghost use Rattle.planner.specs.Plan.{reader, before};
+ghost use Rattle.planning.specs.Plan.{before};
 
 // Puts a rank into the set of readers of each key that its page reads.
 fn add_reads(page: &[u8], rank: usize, readers: &mut [u64])
     requires { ⌜ pageFault (now page) ≡ clear ⌝ }
     requires { ⌜ (rank < 64) × (length (now readers) ≡ 1024) ⌝ }
-    ensures { λ _. ⌜ ((k j : ℕ) → k < 1024 → member (getD (now (readers .exit)) k 0) j ≡ (member (getD (now (readers .entry)) k 0) j || (eqb rank j && reader (pageTx (now (page .entry))) k))) ⌝ }
+    ensures { λ _. ⌜
+        ((k j : ℕ) → k < 1024
+        → member (getD (now (readers .exit)) k 0) j
+        ≡ (member (getD (now (readers .entry)) k 0) j || (eqb rank j && reader (pageTx (now (page .entry))) k)))
+        ⌝ }
 {
     let n = held::reads(page);
     let mut i = 0;
@@ -31,26 +36,37 @@ fn add_reads(page: &[u8], rank: usize, readers: &mut [u64])
 }
 
 // The ranks that read each key.
-fn all_readers(batch: &[u8], pages: &[u8; 64], count: usize) -> [u64; 1024]
+fn all_readers(
+    batch: &[u8],
+    pages: &[u8; layout::MOST_PAGES],
+    count: usize,
+) -> [u64; layout::MOST_KEYS]
     requires { ⌜ Ranked (now batch) (now pages) count ⌝ }
-    ensures { λ r. ⌜ ((k j : ℕ) → k < 1024 → member (getD r k 0) j ≡ (ltb j count && reader (txAt (now (batch .entry)) (nth (now (pages .entry)) j)) k)) ⌝ }
+    ensures { λ r. ⌜
+        ((k j : ℕ) → k < 1024
+        → member (getD r k 0) j ≡ (ltb j count && reader (txAt (now (batch .entry)) (nth (now (pages .entry)) j)) k))
+        ⌝ }
 {
-    let mut readers = [0u64; 1024];
+    let mut readers = [0u64; layout::MOST_KEYS];
     let mut r = 0;
     while r < count {
-        let start = pages[r] as usize * check::PAGE;
-        let end = start + check::PAGE;
-        add_reads(&batch[start..end], r, &mut readers);
+        let page = pages[r] as usize;
+        add_reads(layout::page_at(batch, page), r, &mut readers);
         r += 1;
     }
     readers
 }
 
 // The readers of the keys that a page writes, without its own rank.
-fn blockers_of(page: &[u8], rank: usize, readers: &[u64; 1024]) -> u64
+fn blockers_of(page: &[u8], rank: usize, readers: &[u64; layout::MOST_KEYS]) -> u64
     requires { ⌜ pageFault (now page) ≡ clear ⌝ }
     requires { ⌜ rank < 64 ⌝ }
-    ensures { λ r. ⌜ ((j : ℕ) → member r j ≡ (any (λ w. member (getD (now (readers .entry)) (w .key) 0) j) (pageTx (now (page .entry)) .writes) && not (eqb rank j))) ⌝ }
+    ensures { λ r. ⌜
+        ((j : ℕ)
+        → member r j
+        ≡ (any (λ k. member (getD (now (readers .entry)) k 0) j) (keysWritten (pageTx (now (page .entry))))
+        && not (eqb rank j)))
+        ⌝ }
 {
     let n = held::writes(page);
     let mut all = 0u64;
@@ -65,17 +81,24 @@ fn blockers_of(page: &[u8], rank: usize, readers: &[u64; 1024]) -> u64
 }
 
 // For each rank the set of those that must stand before it.
-pub fn blockers(batch: &[u8], pages: &[u8; 64], count: usize) -> [u64; 64]
+pub fn blockers(
+    batch: &[u8],
+    pages: &[u8; layout::MOST_PAGES],
+    count: usize,
+) -> [u64; layout::MOST_PAGES]
     requires { ⌜ Ranked (now batch) (now pages) count ⌝ }
-    ensures { λ b. ⌜ ((r s : ℕ) → r < count → s < count → demands b r s ≡ before (txAt (now (batch .entry))) (nth (now (pages .entry)) r) (nth (now (pages .entry)) s)) ⌝ }
+    ensures { λ b. ⌜
+        ((r s : ℕ) → r < count → s < count
+        → demands b r s
+        ≡ before (txAt (now (batch .entry))) (nth (now (pages .entry)) r) (nth (now (pages .entry)) s))
+        ⌝ }
 {
     let readers = all_readers(batch, pages, count);
-    let mut blockers = [0u64; 64];
+    let mut blockers = [0u64; layout::MOST_PAGES];
     let mut r = 0;
     while r < count {
-        let start = pages[r] as usize * check::PAGE;
-        let end = start + check::PAGE;
-        blockers[r] = blockers_of(&batch[start..end], r, &readers);
+        let page = pages[r] as usize;
+        blockers[r] = blockers_of(layout::page_at(batch, page), r, &readers);
         r += 1;
     }
     blockers

@@ -1,5 +1,6 @@
 // What a plan leaves in the lent lists.
-use ledger::page::check;
+use ledger::layout;
+use octets::bytes;
 ghost use mathlib.Core.Path.{_≡_};
 ghost use mathlib.Core.List.{_++_};
 ghost use Prim.Native.Nat.{ℕ, _*_, _+_, _≤_, _<_};
@@ -9,7 +10,7 @@ ghost use Rattle.lists.specs.Choice.{pick};
 ghost use Rattle.lists.specs.Members.{any};
 ghost use Rattle.sets.specs.Set.{member};
 ghost use Rattle.lists.specs.Tables.{tab};
-ghost use Rattle.planner.specs.Plan.{gathered};
+ghost use Rattle.planning.specs.Plan.{gathered};
 
 // The verdicts of a plan.
 pub const KEPT: u8 = 0;
@@ -46,7 +47,10 @@ fn verdict(current: bool, kept: bool) -> u8
 // Fills the first `m` verdicts.
 pub fn fill_verdicts(verdicts: &mut [u8], m: usize, current: u64, kept: u64)
     requires { ⌜ (m ≤ length (now verdicts)) × (m ≤ 64) ⌝ }
-    ensures { λ _. ⌜ now (verdicts .exit) ≡ tab m (λ i. pick (member current i) (pick (member kept i) 0 2) 1) ++ drop m (now (verdicts .entry)) ⌝ }
+    ensures { λ _. ⌜
+        now (verdicts .exit)
+        ≡ tab m (λ i. pick (member current i) (pick (member kept i) 0 2) 1) ++ drop m (now (verdicts .entry))
+        ⌝ }
 {
     let mut i = 0;
     while i < m {
@@ -55,31 +59,21 @@ pub fn fill_verdicts(verdicts: &mut [u8], m: usize, current: u64, kept: u64)
     }
 }
 
-// Copies a page.
-fn copy_page(from: &[u8], to: &mut [u8])
-    requires { ⌜ (length (now from) ≡ 512) × (length (now to) ≡ 512) ⌝ }
-    ensures { λ _. ⌜ now (to .exit) ≡ now (from .entry) ⌝ }
-{
-    let mut i = 0;
-    while i < check::PAGE {
-        to[i] = from[i];
-        i += 1;
-    }
-}
-
 // Fills the front of the out batch with the first `k` pages of the order.
 pub fn fill_out(batch: &[u8], order: &[u8], k: usize, out: &mut [u8])
     requires { ⌜ (k ≤ length (now order)) × (k * 512 ≤ length (now out)) ⌝ }
     requires { ⌜ ((j : ℕ) → j < k → getD (now order) j 0 * 512 + 512 ≤ length (now batch)) ⌝ }
-    ensures { λ _. ⌜ now (out .exit) ≡ gathered (now (batch .entry)) (take k (now (order .entry))) ++ drop (512 * k) (now (out .entry)) ⌝ }
+    ensures { λ _. ⌜
+        now (out .exit)
+        ≡ gathered (now (batch .entry)) (take k (now (order .entry))) ++ drop (512 * k) (now (out .entry))
+        ⌝ }
 {
     let mut j = 0;
     while j < k {
-        let start = order[j] as usize * check::PAGE;
-        let end = start + check::PAGE;
-        let to = j * check::PAGE;
-        let to_end = to + check::PAGE;
-        copy_page(&batch[start..end], &mut out[to..to_end]);
+        let page = order[j] as usize;
+        let start = j * layout::PAGE;
+        let end = start + layout::PAGE;
+        bytes::copy(layout::page_at(batch, page), &mut out[start..end]);
         j += 1;
     }
 }

@@ -1,38 +1,37 @@
 // The plan of a batch.
-use crate::Planned;
 use crate::admission;
 use crate::demand;
 use crate::fill;
 use crate::ranks;
 use crate::schedule;
-use ledger::Gate;
-use ledger::page::check;
-use ledger::page::held;
+use ledger::layout;
+use refusals::Answer;
+use refusals::Finding;
 ghost use mathlib.Core.Path.{_≡_};
 ghost use mathlib.Core.Bool.{_&&_};
-ghost use mathlib.Core.List.{List};
 ghost use Prim.Native.Nat.{ℕ, _*_, _≤_, _<_};
 ghost use lib.ListN.{length};
 ghost use lib.Dec.{ltb};
-ghost use lib.IntN.{ℤ};
 ghost use Rattle.sets.specs.Set.{member};
-ghost use Rattle.ledger.specs.State.{stateOf};
-ghost use Rattle.ledger.specs.Gate.{txAt, Batch};
-ghost use Rattle.planner.specs.Ranks.{nth, Sound, Differ};
-ghost use Rattle.planner.specs.Plan.{current, sequence, plans, planned, planBatch};
+ghost use Rattle.ledger.specs.State.{stateOf, versionsIn};
+ghost use Rattle.ledger.specs.Gate.{txAt, Batch, TicketsOf};
+ghost use Rattle.planner.specs.Ranks.{Differ};
+ghost use Rattle.planning.specs.Plan.{current, sequence, plans, planned, planBatch};
 
 // Rule 1: the current ones of the first `m` pages, as a set.
 fn current(batch: &[u8], blocks: &[u32], places: &[u16], m: usize) -> u64
     requires { ⌜ Batch (length (now blocks)) (now batch) m ⌝ }
     requires { ⌜ length (now places) ≡ length (now blocks) ⌝ }
-    ensures { λ r. ⌜ ((v : List ℤ) (i : ℕ) → member r i ≡ (ltb i m && current (stateOf (now (blocks .entry)) (now (places .entry)) v) (txAt (now (batch .entry))) i)) ⌝ }
+    ensures { λ r. ⌜
+        ((i : ℕ)
+        → member r i
+        ≡ (ltb i m && current (versionsIn (now (blocks .entry)) (now (places .entry))) (txAt (now (batch .entry))) i))
+        ⌝ }
 {
     let mut set = 0u64;
     let mut i = 0;
     while i < m {
-        let start = i * check::PAGE;
-        let end = start + check::PAGE;
-        if ledger::commit::passes(&batch[start..end], blocks, places) {
+        if ledger::commit::passes(layout::page_at(batch, i), blocks, places) {
             set = sets::with(set, i);
         }
         i += 1;
@@ -40,25 +39,10 @@ fn current(batch: &[u8], blocks: &[u32], places: &[u16], m: usize) -> u64
     set
 }
 
-// The tickets of the first `m` pages.
-fn tickets(batch: &[u8], m: usize) -> [u32; 64]
-    requires { ⌜ Sound (now batch) m ⌝ }
-    ensures { λ r. ⌜ ((i : ℕ) → i < m → nth r i ≡ txAt (now (batch .entry)) i .ticket) ⌝ }
-{
-    let mut all = [0u32; 64];
-    let mut i = 0;
-    while i < m {
-        let start = i * check::PAGE;
-        let end = start + check::PAGE;
-        all[i] = held::ticket(&batch[start..end]);
-        i += 1;
-    }
-    all
-}
-
 // Plans a batch that the gate lets through: rules 1 to 4.
 fn plan_pages(
     batch: &[u8],
+    tickets: &[u32; layout::MOST_PAGES],
     blocks: &[u32],
     places: &[u16],
     m: usize,
@@ -69,13 +53,18 @@ fn plan_pages(
     requires { ⌜ Batch (length (now blocks)) (now batch) m ⌝ }
     requires { ⌜ length (now places) ≡ length (now blocks) ⌝ }
     requires { ⌜ Differ (now batch) m ⌝ }
+    requires { ⌜ TicketsOf (now batch) m (now tickets) ⌝ }
     requires { ⌜ (m ≤ length (now verdicts)) × (m ≤ length (now order)) × (m * 512 ≤ length (now out)) ⌝ }
-    ensures { λ k. ⌜ ((v : List ℤ) → planned (Planned.Kept k) (now (verdicts .exit)) (now (order .exit)) (now (out .exit)) ≡ plans (now (batch .entry)) (stateOf (now (blocks .entry)) (now (places .entry)) v) (sequence (stateOf (now (blocks .entry)) (now (places .entry)) v) (txAt (now (batch .entry))) m) (now (verdicts .entry)) (now (order .entry)) (now (out .entry))) ⌝ }
+    ensures { λ k. ⌜ (
+        let held = versionsIn (now (blocks .entry)) (now (places .entry)) in
+        planned (Answer.Count k) (now (verdicts .exit)) (now (order .exit)) (now (out .exit))
+        ≡ plans (now (batch .entry)) held (sequence held (txAt (now (batch .entry))) m) (now (verdicts .entry))
+        (now (order .entry)) (now (out .entry))
+        ) ⌝ }
 {
     let current = current(batch, blocks, places, m);
-    let tickets = tickets(batch, m);
-    let mut pages = [0u8; 64];
-    let count = ranks::by_ticket(current, m, &tickets, &mut pages);
+    let mut pages = [0u8; layout::MOST_PAGES];
+    let count = ranks::by_ticket(current, m, tickets, &mut pages);
     let blockers = demand::blockers(batch, &pages, count);
     let kept = admission::admitted(&blockers, count);
     let k = schedule::fill_order(&blockers, kept, &pages, order);
@@ -94,16 +83,26 @@ pub fn plan_batch(
     verdicts: &mut [u8],
     order: &mut [u8],
     out: &mut [u8],
-) -> Planned
-    ensures { λ r. ⌜ planned r (now (verdicts .exit)) (now (order .exit)) (now (out .exit)) ≡ planBatch (now (batch .entry)) (stateOf (now (blocks .entry)) (now (places .entry)) (now (values .entry))) n (now (verdicts .entry)) (now (order .entry)) (now (out .entry)) ⌝ }
+) -> Answer
+    ensures { λ r. ⌜ (
+        let s = stateOf (now (blocks .entry)) (now (places .entry)) (now (values .entry)) in
+        planned r (now (verdicts .exit)) (now (order .exit)) (now (out .exit))
+        ≡ planBatch (now (batch .entry)) s n (now (verdicts .entry)) (now (order .entry)) (now (out .entry))
+        ) ⌝ }
 {
-    let m = batch.len() / check::PAGE;
-    let short = verdicts.len() < m || order.len() < m || out.len() < m * check::PAGE;
-    match ledger::batch::gate(batch, blocks, places, values, n, short) {
-        Gate::Shut { refusal } => Planned::Unplanned { refusal },
-        Gate::Open { pages } => {
-            let kept = plan_pages(batch, blocks, places, pages, verdicts, order, out);
-            Planned::Kept { pages: kept }
-        }
+    let found = ledger::batch::front_fault(batch, blocks, places, values, n);
+    if let Finding::Found { refusal } = found {
+        return Answer::Refused { refusal };
     }
+    let m = batch.len() / layout::PAGE;
+    if verdicts.len() < m || order.len() < m || out.len() < m * layout::PAGE {
+        return refusals::refused(refusals::LENT_TOO_SHORT, 0);
+    }
+    let tickets = ledger::batch::tickets(batch, m);
+    let found = ledger::batch::pages_fault(batch, &tickets, blocks.len());
+    if let Finding::Found { refusal } = found {
+        return Answer::Refused { refusal };
+    }
+    let count = plan_pages(batch, &tickets, blocks, places, m, verdicts, order, out);
+    Answer::Count { count }
 }

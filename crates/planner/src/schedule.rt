@@ -1,4 +1,5 @@
 // Rule 4: the order of the kept, by rank.
+use ledger::layout;
 ghost use mathlib.Core.Path.{_≡_};
 ghost use mathlib.Core.Bool.{false};
 ghost use mathlib.Core.List.{_++_, map};
@@ -10,8 +11,9 @@ ghost use Rattle.orders.specs.Walk.{Next};
 ghost use Rattle.sets.specs.Set.{member, members};
 ghost use Rattle.planner.specs.Ranks.{demands, nth};
 
-// The lowest of those left that no other of them must stand before: each candidate is left by label as soon as a blocker is found.
-fn next_free(blockers: &[u64; 64], left: u64) -> usize
+// The lowest of those left that no other of them must stand before:
+// each candidate is left by label as soon as a blocker is found.
+fn next_free(blockers: &[u64; layout::MOST_PAGES], left: u64) -> usize
     requires { ⌜ 0 < left ⌝ }
     requires { ⌜ cyclic (demands (now blockers)) (members left 64) ≡ false ⌝ }
     ensures { λ p. ⌜ Next (demands (now (blockers .entry))) (member left) p ⌝ }
@@ -34,11 +36,20 @@ fn next_free(blockers: &[u64; 64], left: u64) -> usize
 }
 
 // Fills the front of the order list with the pages of the kept in schedule order, and gives how many there are.
-pub fn fill_order(blockers: &[u64; 64], kept: u64, pages: &[u8; 64], order: &mut [u8]) -> usize
+pub fn fill_order(
+    blockers: &[u64; layout::MOST_PAGES],
+    kept: u64,
+    pages: &[u8; layout::MOST_PAGES],
+    order: &mut [u8],
+) -> usize
     requires { ⌜ length (members kept 64) ≤ length (now order) ⌝ }
     requires { ⌜ cyclic (demands (now blockers)) (members kept 64) ≡ false ⌝ }
     ensures { λ k. ⌜ k ≡ length (members kept 64) ⌝ }
-    ensures { λ k. ⌜ now (order .exit) ≡ map (nth (now (pages .entry))) (schedule (demands (now (blockers .entry))) (λ x. x) (members kept 64)) ++ drop k (now (order .entry)) ⌝ }
+    ensures { λ k. ⌜
+        now (order .exit)
+        ≡ map (nth (now (pages .entry))) (schedule (demands (now (blockers .entry))) (λ x. x) (members kept 64))
+        ++ drop k (now (order .entry))
+        ⌝ }
 {
     let mut left = kept;
     let mut k = 0;

@@ -132,7 +132,7 @@ passed-on {rows} {i} u e = record {
 }
 
 -- one row for each index
-one-clear : (n p : ℕ) (b : Bool) → b ≡ false → first (row n p b ∷ []) ≡ clear
+pub one-clear : (n p : ℕ) (b : Bool) → b ≡ false → first (row n p b ∷ []) ≡ clear
 unfolding first
 one-clear n p b e = rw e
 

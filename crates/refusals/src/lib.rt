@@ -1,4 +1,7 @@
-// The refusals of document 01: their numbers, and what a refusal returns.
+// The refusals of document 01: their numbers, what a refusal returns, and what a service answers.
+ghost use mathlib.Core.Path.{_≡_};
+ghost use Rattle.refusals.specs.Outcome.{refuses, outcome};
+ghost use Rattle.refusals.specs.Fault.{fault, finding};
 
 // "Any refusal returns its number and a place."
 pub struct Refusal {
@@ -6,10 +9,32 @@ pub struct Refusal {
     pub place: u32,
 }
 
+// What a service answers: a count, 0 where it has none to give, or a refusal.
+pub enum Answer {
+    Count { count: usize },
+    Refused { refusal: Refusal },
+}
+
 // What tests in turn find: nothing, or the first refusal.
 pub enum Finding {
     Clear,
     Found { refusal: Refusal },
+}
+
+// The answer of a service that refuses.
+pub fn refused(number: u32, place: u32) -> Answer
+    ensures { λ a. ⌜ outcome a ≡ refuses number place ⌝ }
+{
+    let refusal = Refusal { number, place };
+    Answer::Refused { refusal }
+}
+
+// What a test finds whose case is there.
+pub fn found(number: u32, place: u32) -> Finding
+    ensures { λ f. ⌜ finding f ≡ fault number place ⌝ }
+{
+    let refusal = Refusal { number, place };
+    Finding::Found { refusal }
 }
 
 pub const PAGE_LENGTH: u32 = 1;

@@ -15,8 +15,8 @@ use Rattle.lists.specs.Search.{firstIn}
 use Rattle.lists.specs.Ascii.{ascii}
 use Rattle.refusals.specs.declared.Refusal.{Refusal}
 use Rattle.refusals.specs.Outcome.{Outcome, gives, refuses}
-use Rattle.tonnage.specs.declared.Writing.{Writing}
-use Rattle.tonnage.specs.declared.Writing.the-variants.{Length, Unwritten}
+use Rattle.refusals.specs.declared.Answer.{Answer}
+use Rattle.refusals.specs.declared.Answer.the-variants.{Count, Refused}
 use Rattle.tonnage.specs.Text.{digits, width, textOf}
 use Rattle.tonnage.specs.Services.{Written, writeText, wrote}
 use Rattle.tonnage.proofs.Runs.{narrow, length-digits}
@@ -86,7 +86,7 @@ module _ (order : List ℕ) (k i p : ℕ) (e : p ≡ firstIn (λ j. eqb (getD or
 
 -- ---- tonnes, written into the rest of a buffer that has room
 
-module _ (out ys : List ℕ) (at : ℕ) (z : ℤ) (r : Writing) (room : at + 25 ≤ length out) (fits : SFits w64 z)
+module _ (out ys : List ℕ) (at : ℕ) (z : ℤ) (r : Answer) (room : at + 25 ≤ length out) (fits : SFits w64 z)
     (e : wrote r ys ≡ writeText (take (length out - at) (drop at out)) z) where
   lent : take (length out - at) (drop at out) ≡ drop at out
   lent = take-all (length out - at) (drop at out) (rw length-drop (omega arith))
@@ -106,7 +106,7 @@ module _ (out ys : List ℕ) (at : ℕ) (z : ℤ) (r : Writing) (room : at + 25 
       ∙ written z (drop at out) (rw length-drop (omega (arith, few)))
       ∙ rw (drop-drop (length (textOf z)) at out)
 
-  pub tonnes-put : (n : ℕ) → r ≡ Length n
+  pub tonnes-put : (n : ℕ) → r ≡ Count n
       → (at + n ≤ at + 25) × Put out at (textOf z) (take at out ++ (ys ++ drop (length out - at) (drop at out))) (at + n)
   tonnes-put n h =
       let d : _≡_ {A = Written} (record { answer = gives n; text = ys }) (record { answer = gives (length (textOf z)); text = textOf z ++ drop (at + length (textOf z)) out }) = rw h at done in
@@ -122,7 +122,7 @@ module _ (out ys : List ℕ) (at : ℕ) (z : ℤ) (r : Writing) (room : at + 25 
         },
       )
 
-  pub tonnes-room : (f : Refusal) → r ≡ Unwritten f → ⊥
+  pub tonnes-room : (f : Refusal) → r ≡ Refused f → ⊥
   tonnes-room f h =
       let g : _≡_ {A = Outcome ℕ} (refuses (f .number) (f .place)) (gives (length (textOf z))) = ap (λ (w : Written). w .answer) (rw h at done) in
       let n : _≡_ {A = ℕ} 0 1 = cc in

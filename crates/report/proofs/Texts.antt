@@ -1,20 +1,16 @@
 -- The lines of the state, and the texts as a whole. Assumes nothing.
 use Prim.Native.Nat.{ℕ, _≤_, _<_}
-use mathlib.Core.Path.{_≡_, refl, sym, ap₂}
+use mathlib.Core.Path.{_≡_, refl, sym, ap}
 use mathlib.Core.Bool.{Bool, true, false, not, and-false}
 use mathlib.Core.List.{List, []}
 use native.Mathlib.Omega.{arith}
-use mir.Syntax.{w64}
-use mir.Val.{ofZ}
-use lib.ListN.{length, getD}
+use lib.ListN.{length}
 use lib.Dec.{ltb}
-use lib.IntN.{ℤ, pos}
-use borrow.Author.Tests.{lt-leb, le-leb, eqb-true, leb-true, eq-eqb, ne-eqb, not-false}
+use borrow.Author.Tests.{lt-leb, le-leb, eqb-true, leb-true, not-false}
 use Rattle.lists.specs.Choice.{pick}
 use Rattle.lists.proofs.Tests.{leb-not, and-parts}
-use Rattle.ledger.specs.declared.Version.{Version}
-use Rattle.ledger.specs.Version.{absent, at, same}
-use Rattle.ledger.specs.State.{State, Entry, entry, isGone, wrongLengths}
+use Rattle.ledger.specs.declared.Entry.{Entry}
+use Rattle.ledger.specs.State.{State, entry, isGone, wrongLengths}
 use Rattle.ledger.specs.Gate.{pages}
 use Rattle.report.specs.Put.{Put}
 use Rattle.report.specs.Listing.{filled, stateLine, keyLine, listing, together, listed, refusal, refused}
@@ -22,23 +18,16 @@ use Rattle.report.proofs.Puts.{fills, fills-to}
 
 -- ---- the line of a key
 
-abbrev line : ℕ → Version → ℤ → List ℕ
-line k v z = let e : Entry = record { version = v; value = z } in pick (isGone e) [] (stateLine k e)
+module _ (k : ℕ) (e : Entry) where
+  pub line-gone : isGone e ≡ true → [] ≡ pick (isGone e) [] (stateLine k e)
+  line-gone h = rw h
 
-module _ (k : ℕ) (v : Version) (z : ℤ) where
-  pub line-gone : same v absent ≡ true → ofZ w64 z ≡ 0 → [] ≡ line k v z
-  line-gone e h = rw (e, eq-eqb (ofZ w64 z) 0 h)
+  pub line-present : isGone e ≡ false → stateLine k e ≡ pick (isGone e) [] (stateLine k e)
+  line-present h = rw h
 
-  pub line-version : same v absent ≡ false → stateLine k (record { version = v; value = z }) ≡ line k v z
-  line-version e = rw e
-
-  pub line-value : same v absent ≡ true → (ofZ w64 z ≡ 0 → ⊥) → stateLine k (record { version = v; value = z }) ≡ line k v z
-  line-value e h = rw (e, ne-eqb (ofZ w64 z) 0 h)
-
-pub key-line : (s : State) (k : ℕ) (v : Version) (z : ℤ) → v ≡ at (getD (s .blocks) k 0) (getD (s .places) k 0) → z ≡ getD (s .values) k (pos 0)
-    → line k v z ≡ keyLine s k
-unfolding keyLine entry
-key-line s k v z e f = ap₂ (line k) e f
+pub key-line : (s : State) (k : ℕ) (e : Entry) → e ≡ entry s k → pick (isGone e) [] (stateLine k e) ≡ keyLine s k
+unfolding keyLine
+key-line s k e h = ap (λ (x : Entry). pick (isGone x) [] (stateLine k x)) h
 
 -- ---- the refusal as a whole
 

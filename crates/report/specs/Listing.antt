@@ -9,7 +9,8 @@ use Rattle.lists.specs.Search.{firstIn}
 use Rattle.lists.specs.Ascii.{ascii}
 use Rattle.tonnage.specs.Text.{digits, width, textOf}
 use Rattle.lists.specs.Tables.{flat}
-use Rattle.ledger.specs.State.{State, Entry, keys, entry, isGone, wrongLengths}
+use Rattle.ledger.specs.declared.Entry.{Entry}
+use Rattle.ledger.specs.State.{State, keys, entry, isGone, wrongLengths}
 use Rattle.ledger.specs.Gate.{pages, txAt}
 
 -- "numbers are decimal without needless zeros"

@@ -2,8 +2,7 @@
 mod lines;
 mod put;
 
-use ledger::batch;
-use ledger::page::check;
+use ledger::layout;
 use ledger::state;
 ghost use mathlib.Core.Path.{_≡_};
 ghost use lib.ListN.{length};
@@ -38,14 +37,24 @@ pub fn fill_listing(
     places: &[u16],
     values: &[i64],
 ) -> usize
-    ensures { λ r. ⌜ r ≡ length (listed (now (out .entry)) n (now (batch .entry)) (now (verdicts .entry)) (now (order .entry)) kept (stateOf (now (blocks .entry)) (now (places .entry)) (now (values .entry)))) ⌝ }
-    ensures { λ r. ⌜ now (out .exit) ≡ filled (listed (now (out .entry)) n (now (batch .entry)) (now (verdicts .entry)) (now (order .entry)) kept (stateOf (now (blocks .entry)) (now (places .entry)) (now (values .entry)))) (now (out .entry)) ⌝ }
+    ensures { λ r. ⌜ (
+        let s = stateOf (now (blocks .entry)) (now (places .entry)) (now (values .entry)) in
+        r
+        ≡ length (listed (now (out .entry)) n (now (batch .entry)) (now (verdicts .entry)) (now (order .entry)) kept
+        s)
+        ) ⌝ }
+    ensures { λ r. ⌜ (
+        let s = stateOf (now (blocks .entry)) (now (places .entry)) (now (values .entry)) in
+        now (out .exit)
+        ≡ filled (listed (now (out .entry)) n (now (batch .entry)) (now (verdicts .entry)) (now (order .entry)) kept
+        s) (now (out .entry))
+        ) ⌝ }
 {
-    let m = batch.len() / check::PAGE;
-    if out.len() < LISTING_ROOM || batch.len() > batch::MOST_BYTES || verdicts.len() < m {
+    let m = batch.len() / layout::PAGE;
+    if out.len() < LISTING_ROOM || batch.len() > layout::MOST_BYTES || verdicts.len() < m {
         return 0;
     }
-    if kept > order.len() || kept > batch::MOST_PAGES {
+    if kept > order.len() || kept > layout::MOST_PAGES {
         return 0;
     }
     if state::lengths_wrong(blocks, places, values) {

@@ -1,7 +1,8 @@
 // The lines of the listing, each put into a lent buffer at a position; the answer is the position after it.
 use crate::put;
+use ledger::Entry;
 use ledger::Version;
-use ledger::page::check;
+use ledger::layout;
 use ledger::page::held;
 use ledger::state;
 ghost use Prim.Native.Nat.{_+_, _*_, _≤_, _<_};
@@ -83,7 +84,10 @@ fn put_page(
 ) -> usize
     requires { ⌜ at + 32 ≤ length (now out) ⌝ }
     requires { ⌜ (k ≤ length (now order)) × (k ≤ 64) ⌝ }
-    ensures { λ r. ⌜ (r ≤ at + 32) × Put (now (out .entry)) at (pageLine ticket verdict (placed (now (order .entry)) k i)) (now (out .exit)) r ⌝ }
+    ensures { λ r. ⌜
+        (r ≤ at + 32)
+        × Put (now (out .entry)) at (pageLine ticket verdict (placed (now (order .entry)) k i)) (now (out .exit)) r
+        ⌝ }
 {
     let first = put::put_number(out, at, ticket);
     let second = put::put_byte(out, first, b' ');
@@ -105,15 +109,18 @@ pub fn put_pages(
     requires { ⌜ at + 32 * pages (now batch) ≤ length (now out) ⌝ }
     requires { ⌜ (pages (now batch) ≤ length (now verdicts)) × (length (now batch) ≤ 32768) ⌝ }
     requires { ⌜ (k ≤ length (now order)) × (k ≤ 64) ⌝ }
-    ensures { λ r. ⌜ (r ≤ at + 32 * pages (now (batch .entry))) × Put (now (out .entry)) at (flat (pages (now (batch .entry))) (λ i. pageLine (txAt (now (batch .entry)) i .ticket) (getD (now (verdicts .entry)) i 0) (placed (now (order .entry)) k i))) (now (out .exit)) r ⌝ }
+    ensures { λ r. ⌜
+        (r ≤ at + 32 * pages (now (batch .entry)))
+        × Put (now (out .entry)) at (flat (pages (now (batch .entry)))
+        (λ i. pageLine (txAt (now (batch .entry)) i .ticket) (getD (now (verdicts .entry)) i 0)
+        (placed (now (order .entry)) k i))) (now (out .exit)) r
+        ⌝ }
 {
-    let m = batch.len() / check::PAGE;
+    let m = batch.len() / layout::PAGE;
     let mut next = at;
     let mut i = 0;
     while i < m {
-        let start = i * check::PAGE;
-        let end = start + check::PAGE;
-        let ticket = held::ticket(&batch[start..end]);
+        let ticket = held::ticket(layout::page_at(batch, i));
         next = put_page(out, next, ticket, verdicts[i], order, k, i);
         i += 1;
     }
@@ -123,7 +130,10 @@ pub fn put_pages(
 // The line of a key that is present.
 fn put_state(out: &mut [u8], at: usize, key: usize, version: Version, value: i64) -> usize
     requires { ⌜ (at + 60 ≤ length (now out)) × (key < 1024) ⌝ }
-    ensures { λ r. ⌜ (r ≤ at + 60) × Put (now (out .entry)) at (stateLine key (record { version = version; value = value })) (now (out .exit)) r ⌝ }
+    ensures { λ r. ⌜
+        (r ≤ at + 60)
+        × Put (now (out .entry)) at (stateLine key (record { version = version; value = value })) (now (out .exit)) r
+        ⌝ }
 {
     let first = put::put_number(out, at, key as u32);
     let second = put::put_byte(out, first, b' ');
@@ -136,29 +146,37 @@ fn put_state(out: &mut [u8], at: usize, key: usize, version: Version, value: i64
 }
 
 // The line of a key; nothing where it is absent.
-fn put_key(out: &mut [u8], at: usize, key: usize, version: Version, value: i64) -> usize
+fn put_key(out: &mut [u8], at: usize, key: usize, e: Entry) -> usize
     requires { ⌜ (at + 60 ≤ length (now out)) × (key < 1024) ⌝ }
-    ensures { λ r. ⌜ (r ≤ at + 60) × Put (now (out .entry)) at (pick (isGone (record { version = version; value = value })) [] (stateLine key (record { version = version; value = value }))) (now (out .exit)) r ⌝ }
+    ensures { λ r. ⌜
+        (r ≤ at + 60) × Put (now (out .entry)) at (pick (isGone e) [] (stateLine key e)) (now (out .exit)) r
+        ⌝ }
 {
-    if version.same(Version::ABSENT) {
-        if value == 0 {
-            return at;
-        }
+    if e.is_absent() {
+        return at;
     }
-    put_state(out, at, key, version, value)
+    let version = e.version;
+    put_state(out, at, key, version, e.value)
 }
 
 // The lines of the keys.
 pub fn put_keys(out: &mut [u8], at: usize, blocks: &[u32], places: &[u16], values: &[i64]) -> usize
     requires { ⌜ at + 60 * length (now blocks) ≤ length (now out) ⌝ }
-    requires { ⌜ (length (now places) ≡ length (now blocks)) × (length (now values) ≡ length (now blocks)) × (length (now blocks) ≤ 1024) ⌝ }
-    ensures { λ r. ⌜ (r ≤ at + 60 * length (now (blocks .entry))) × Put (now (out .entry)) at (flat (length (now (blocks .entry))) (keyLine (stateOf (now (blocks .entry)) (now (places .entry)) (now (values .entry))))) (now (out .exit)) r ⌝ }
+    requires { ⌜
+        (length (now places) ≡ length (now blocks)) × (length (now values)
+        ≡ length (now blocks)) × (length (now blocks) ≤ 1024)
+        ⌝ }
+    ensures { λ r. ⌜ (
+        let s = stateOf (now (blocks .entry)) (now (places .entry)) (now (values .entry)) in
+        (r ≤ at + 60 * length (now (blocks .entry)))
+        × Put (now (out .entry)) at (flat (length (now (blocks .entry))) (keyLine s)) (now (out .exit)) r
+        ) ⌝ }
 {
     let mut next = at;
     let mut key = 0;
     while key < blocks.len() {
-        let version = state::version_at(blocks, places, key);
-        next = put_key(out, next, key, version, values[key]);
+        let entry = state::entry_at(blocks, places, values, key);
+        next = put_key(out, next, key, entry);
         key += 1;
     }
     next

@@ -1,5 +1,5 @@
 // What the lines are made of, each put into a lent buffer at a position; the answer is the position after it.
-use tonnage::Writing;
+use refusals::Answer;
 use tonnage::digits;
 ghost use Prim.Native.Nat.{_+_, _≤_};
 ghost use mathlib.Core.Path.{_≡_};
@@ -47,7 +47,9 @@ pub fn put_byte(out: &mut [u8], at: usize, byte: u8) -> usize
 // A text.
 pub fn put_bytes(out: &mut [u8], at: usize, text: &[u8]) -> usize
     requires { ⌜ at + length (now text) ≤ length (now out) ⌝ }
-    ensures { λ r. ⌜ (r ≡ at + length (now (text .entry))) × Put (now (out .entry)) at (now (text .entry)) (now (out .exit)) r ⌝ }
+    ensures { λ r. ⌜
+        (r ≡ at + length (now (text .entry))) × Put (now (out .entry)) at (now (text .entry)) (now (out .exit)) r
+        ⌝ }
 {
     let mut i = 0;
     while i < text.len() {
@@ -91,7 +93,7 @@ pub fn put_tonnes(out: &mut [u8], at: usize, value: i64) -> usize
     ensures { λ r. ⌜ (r ≤ at + 25) × Put (now (out .entry)) at (textOf value) (now (out .exit)) r ⌝ }
 {
     let written = tonnage::text::write_tonnage(&mut out[at..], value);
-    let Writing::Length { length } = written else {
+    let Answer::Count { count: length } = written else {
         return at;
     };
     at + length

@@ -63,10 +63,6 @@ within k m i h e = lt-of-not-le (λ l. clash (sym e ∙ ap (λ (x : ℕ). eqb (x
 pub some : (k m : ℕ) → 0 < m → m < 2 ^ k → (i : ℕ) × (member m i ≡ true)
 some k m p h = (_, of-trailing k m p h .1)
 
--- the set without i
-pub removed : (m i : ℕ) → (r : ℕ) × ((j : ℕ) → member r j ≡ (member m j && not (eqb i j)))
-removed m i = (_, λ j. of-minus m (2 ^ i) j ∙ ap (λ (b : Bool). member m j && not b) (of-only i j))
-
 -- sizes: of sets that agree below n, of 0, and of a set without one of its members
 pub size-same : (m r n : ℕ) → ((j : ℕ) → j < n → member m j ≡ member r j) → size m n ≡ size r n
 unfolding size
@@ -122,7 +118,3 @@ size-all m (suc n) = let a = size-all m n in let b = bit (member m n) in omega a
     bit : (p : Bool) → one p ≤ 1
     bit true = omega arith
     bit false = omega arith
-
--- what a member of `both(a, b)` is, from that function's contract
-pub in-both : (a b r i : ℕ) → ((j : ℕ) → member r j ≡ (member a j && member b j)) → member r i ≡ true → (member a i ≡ true) × (member b i ≡ true)
-in-both a b r i w e = and-parts (member a i) (member b i) (sym (w i) ∙ e)

@@ -32,9 +32,6 @@ listed-size m (suc n) = rw (those-append (member m) (upto n) (n ∷ []), length-
     last true = refl
     last false = refl
 
-pub listed-same : (m r n : ℕ) → ((j : ℕ) → member m j ≡ member r j) → members m n ≡ members r n
-listed-same m r n h = those-same (member m) (member r) (upto n) (λ x k. h x)
-
 -- one taken out of the set is taken out of the list
 pub listed-without : (m r i n : ℕ) → ((j : ℕ) → member r j ≡ (member m j && not (eqb i j))) → members r n ≡ those (λ j. not (eqb i j)) (members m n)
 listed-without m r i n w =

@@ -5,12 +5,11 @@ use Prim.Native.Nat.{ℕ, _^_}
 use lib.ListN.{length, drop}
 use lib.Dec.{ltb}
 use lib.IntN.{ℤ, pos, negsuc}
-use Rattle.refusals.specs.Outcome.{Outcome, gives, refuses}
+use Rattle.refusals.specs.declared.Answer.{Answer}
+use Rattle.refusals.specs.Outcome.{Outcome, gives, refuses, outcome}
 use Rattle.refusals.specs.Fault.{Row, row, first, judged, after}
 use Rattle.tonnage.specs.declared.Reading.{Reading}
 use Rattle.tonnage.specs.declared.Reading.the-variants.{Kilograms, Unread}
-use Rattle.tonnage.specs.declared.Writing.{Writing}
-use Rattle.tonnage.specs.declared.Writing.the-variants.{Length, Unwritten}
 use Rattle.tonnage.specs.Text.{form, figure, textOf}
 
 -- a figure of signed 64 bits
@@ -49,9 +48,5 @@ writeText buffer z =
     record { answer = judged wrong (length (textOf z)); text = after wrong (textOf z ++ drop (length (textOf z)) buffer) buffer }
 
 -- the answer of the writer as an outcome, with the buffer as it is at the end
-abbrev pub writing : Writing → Outcome ℕ
-writing (Length n) = gives n
-writing (Unwritten r) = refuses (r .number) (r .place)
-
-abbrev pub wrote : Writing → List ℕ → Written
-wrote x buffer = record { answer = writing x; text = buffer }
+abbrev pub wrote : Answer → List ℕ → Written
+wrote a buffer = record { answer = outcome a; text = buffer }

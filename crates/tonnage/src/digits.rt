@@ -13,7 +13,7 @@ pub const BEYOND: u64 = 9223372036854775809;
 const MOST_BEFORE: u64 = 922337203685477580;
 
 // The first index from `from` up to, not including, `to` that holds no digit; `to` where all do.
-pub fn first_other(text: &[u8], from: usize, to: usize) -> usize
+pub(crate) fn first_other(text: &[u8], from: usize, to: usize) -> usize
     requires { ⌜ (from ≤ to) × (to ≤ length (now text)) ⌝ }
     ensures { λ r. ⌜ r ≡ firstIn (other (now (text .entry))) from to ⌝ }
 {
@@ -41,8 +41,9 @@ fn with_digit(n: u64, digit: u8) -> u64
     10 * n + (digit - b'0') as u64
 }
 
-// The number that the digits from `from` up to `to` write after the number `n`; BEYOND for all that is as large or larger.
-pub fn follow(text: &[u8], from: usize, to: usize, n: u64) -> u64
+// The number that the digits from `from` up to `to` write after the number `n`;
+// BEYOND for all that is as large or larger.
+pub(crate) fn follow(text: &[u8], from: usize, to: usize, n: u64) -> u64
     requires { ⌜ (from ≤ to) × (to ≤ length (now text)) ⌝ }
     requires { ⌜ n ≤ beyond ⌝ }
     requires { ⌜ to ≤ firstIn (other (now text)) from to ⌝ }

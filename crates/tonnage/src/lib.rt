@@ -7,12 +7,6 @@ pub enum Reading {
     Unread { refusal: Refusal },
 }
 
-// What writing a text did: the length of the text, or why nothing was written.
-pub enum Writing {
-    Length { length: usize },
-    Unwritten { refusal: Refusal },
-}
-
 pub mod digits;
 mod figure;
 mod form;

@@ -1,9 +1,9 @@
 // The services on tonnage texts.
 use crate::Reading;
-use crate::Writing;
 use crate::digits;
 use crate::figure;
 use crate::form;
+use refusals::Answer;
 use refusals::Refusal;
 ghost use mathlib.Core.Path.{_≡_};
 ghost use mathlib.Core.Bool.{true};
@@ -62,7 +62,7 @@ pub fn read_tonnage(text: &[u8]) -> Reading
 }
 
 // Writes a text to the front of a buffer: refusal 20.
-pub fn write_tonnage(text: &mut [u8], kilograms: i64) -> Writing
+pub fn write_tonnage(text: &mut [u8], kilograms: i64) -> Answer
     ensures { λ r. ⌜ wrote r (now (text .exit)) ≡ writeText (now (text .entry)) kilograms ⌝ }
 {
     let parts = figure::split(kilograms);
@@ -71,11 +71,7 @@ pub fn write_tonnage(text: &mut [u8], kilograms: i64) -> Writing
     let point = start + width;
     let length = point + form::TAIL;
     if text.len() < length {
-        let refusal = Refusal {
-            number: refusals::TEXT_BUFFER,
-            place: 0,
-        };
-        return Writing::Unwritten { refusal };
+        return refusals::refused(refusals::TEXT_BUFFER, 0);
     }
     if parts.minus {
         text[0] = b'-';
@@ -83,5 +79,5 @@ pub fn write_tonnage(text: &mut [u8], kilograms: i64) -> Writing
     digits::put(text, start, width, parts.tonnes);
     text[point] = b',';
     digits::put(text, point + 1, 3, parts.rest);
-    Writing::Length { length }
+    Answer::Count { count: length }
 }

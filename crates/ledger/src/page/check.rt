@@ -1,42 +1,36 @@
 // The check of a page, on the bytes where they lie: each search of the entries gives where it stopped.
 use crate::PageCheck;
-use crate::entry;
+use crate::layout;
 use crate::page::counts;
 use crate::page::held;
+use crate::rules;
 use octets::bytes;
 use octets::weight;
 use refusals::Finding;
 use refusals::Refusal;
 ghost use mathlib.Core.Path.{_≡_};
+ghost use Prim.Native.Nat.{_+_, _*_, _≤_};
 ghost use lib.ListN.{length};
 ghost use Rattle.lists.specs.Search.{firstIn};
 ghost use mathlib.Core.List.{_∷_};
 ghost use Rattle.refusals.specs.Fault.{first, finding};
-ghost use Rattle.ledger.specs.Tx.{readOf, writeOf, readOutOfTurn, writeOutOfTurn, wrongVersion, wrongKind};
-ghost use Rattle.ledger.specs.Page.{pageTx, Counted, lengthRow, headRows, entryRows};
+ghost use Rattle.ledger.specs.Tx.{readOf, writeOf, outOfTurn, wrongVersion, wrongKind};
+ghost use Rattle.ledger.specs.Page.{keyAt, pageTx, Counted, lengthRow, headRows, entryRows};
 ghost use Rattle.ledger.specs.Services.{checked, checkPage};
 
-// The length of a page, the mark at its start, and where its check stands.
-pub const PAGE: usize = 512;
-
-pub const MARK: u8 = 0x54;
-
-pub const CHECK: usize = 508;
-
-// The first read whose key is out of turn; the count of reads where none is.
-fn first_read_key(page: &[u8]) -> usize
-    requires { ⌜ Counted (now page) ⌝ }
-    ensures { λ i. ⌜ i ≡ firstIn (readOutOfTurn (pageTx (now (page .entry)) .reads)) 0 (length (pageTx (now (page .entry)) .reads)) ⌝ }
+// The first of `n` keys that is out of turn, where entries start at `from`, `step` bytes apart; `n` where none is.
+fn first_key(page: &[u8], from: usize, step: usize, n: usize) -> usize
+    requires { ⌜ (2 ≤ step) × (from + step * n ≤ length (now page)) ⌝ }
+    ensures { λ i. ⌜ i ≡ firstIn (outOfTurn (keyAt (now (page .entry)) from step)) 0 n ⌝ }
 {
-    let n = held::reads(page);
     let mut floor: u32 = 0;
     let mut i = 0;
     while i < n {
-        let read = held::read(page, i);
-        if entry::key_wrong(floor, read.key) {
+        let key = bytes::le2(page, from + step * i);
+        if rules::key_wrong(floor, key) {
             return i;
         }
-        floor = (read.key as u32) + 1;
+        floor = (key as u32) + 1;
         i += 1;
     }
     n
@@ -45,35 +39,20 @@ fn first_read_key(page: &[u8]) -> usize
 // The first read whose version is of another form; the count of reads where none is.
 fn first_version(page: &[u8]) -> usize
     requires { ⌜ Counted (now page) ⌝ }
-    ensures { λ i. ⌜ i ≡ firstIn (λ k. wrongVersion (readOf (pageTx (now (page .entry)) .reads) k .version)) 0 (length (pageTx (now (page .entry)) .reads)) ⌝ }
+    ensures { λ i. ⌜
+        i
+        ≡ firstIn (λ k. wrongVersion (readOf (pageTx (now (page .entry)) .reads) k .version)) 0
+        (length (pageTx (now (page .entry)) .reads))
+        ⌝ }
 {
     let n = held::reads(page);
     let mut i = 0;
     while i < n {
         let read = held::read(page, i);
         let version = read.version;
-        if entry::version_wrong(version) {
+        if rules::version_wrong(version) {
             return i;
         }
-        i += 1;
-    }
-    n
-}
-
-// The first write whose key is out of turn; the count of writes where none is.
-fn first_write_key(page: &[u8]) -> usize
-    requires { ⌜ Counted (now page) ⌝ }
-    ensures { λ i. ⌜ i ≡ firstIn (writeOutOfTurn (pageTx (now (page .entry)) .writes)) 0 (length (pageTx (now (page .entry)) .writes)) ⌝ }
-{
-    let n = held::writes(page);
-    let mut floor: u32 = 0;
-    let mut i = 0;
-    while i < n {
-        let write = held::write(page, i);
-        if entry::key_wrong(floor, write.key) {
-            return i;
-        }
-        floor = (write.key as u32) + 1;
         i += 1;
     }
     n
@@ -82,13 +61,17 @@ fn first_write_key(page: &[u8]) -> usize
 // The first write whose kind is wrong; the count of writes where none is.
 fn first_kind(page: &[u8]) -> usize
     requires { ⌜ Counted (now page) ⌝ }
-    ensures { λ i. ⌜ i ≡ firstIn (λ k. wrongKind (writeOf (pageTx (now (page .entry)) .writes) k)) 0 (length (pageTx (now (page .entry)) .writes)) ⌝ }
+    ensures { λ i. ⌜
+        i
+        ≡ firstIn (λ k. wrongKind (writeOf (pageTx (now (page .entry)) .writes) k)) 0
+        (length (pageTx (now (page .entry)) .writes))
+        ⌝ }
 {
     let n = held::writes(page);
     let mut i = 0;
     while i < n {
         let write = held::write(page, i);
-        if entry::kind_wrong(write) {
+        if rules::kind_wrong(write) {
             return i;
         }
         i += 1;
@@ -100,39 +83,42 @@ fn first_kind(page: &[u8]) -> usize
 fn head_fault(page: &[u8]) -> Finding
     ensures { λ x. ⌜ finding x ≡ first (lengthRow (now (page .entry)) ∷ headRows (now (page .entry))) ⌝ }
 {
-    if page.len() != PAGE {
-        return counts::found(refusals::PAGE_LENGTH);
+    if page.len() != layout::PAGE {
+        return refusals::found(refusals::PAGE_LENGTH, 0);
     }
-    if weight::weigh(page) != bytes::le4(page, CHECK) {
-        return counts::found(refusals::CHECK);
+    if weight::weigh(page) != bytes::le4(page, layout::CHECK) {
+        return refusals::found(refusals::CHECK, 0);
     }
-    if page[0] != MARK {
-        return counts::found(refusals::MARK);
+    if page[0] != layout::MARK {
+        return refusals::found(refusals::MARK, 0);
     }
-    if page[3] != 0 {
-        return counts::found(refusals::MARK);
+    if page[layout::ZERO] != 0 {
+        return refusals::found(refusals::MARK, 0);
     }
-    counts::count_fault(page[1] as usize, page[2] as usize)
+    counts::count_fault(
+        page[layout::READ_COUNT] as usize,
+        page[layout::WRITE_COUNT] as usize,
+    )
 }
 
 // 6 to 9: the entries.
-fn entry_fault(page: &[u8]) -> Finding
+pub(crate) fn entry_fault(page: &[u8]) -> Finding
     requires { ⌜ Counted (now page) ⌝ }
     ensures { λ x. ⌜ finding x ≡ first (entryRows (pageTx (now (page .entry)))) ⌝ }
 {
     let r = held::reads(page);
     let w = held::writes(page);
-    if first_read_key(page) < r {
-        return counts::found(refusals::READ_KEYS);
+    if first_key(page, layout::HEAD, layout::READ, r) < r {
+        return refusals::found(refusals::READ_KEYS, 0);
     }
     if first_version(page) < r {
-        return counts::found(refusals::READ_VERSION);
+        return refusals::found(refusals::READ_VERSION, 0);
     }
-    if first_write_key(page) < w {
-        return counts::found(refusals::WRITE_KEYS);
+    if first_key(page, layout::writes_at(r), layout::WRITE, w) < w {
+        return refusals::found(refusals::WRITE_KEYS, 0);
     }
     if first_kind(page) < w {
-        return counts::found(refusals::WRITE_KIND);
+        return refusals::found(refusals::WRITE_KIND, 0);
     }
     Finding::Clear
 }
@@ -145,19 +131,23 @@ pub fn check_page(page: &[u8]) -> PageCheck
     if let Finding::Found { refusal } = found {
         return PageCheck::Bad { refusal };
     }
-    let found = entry_fault(page);
+    // Cut anew, so that it is handed on from registers.
+    let found = entry_fault(layout::page_at(page, 0));
     if let Finding::Found { refusal } = found {
         return PageCheck::Bad { refusal };
     }
     let reads = held::reads(page);
     let writes = held::writes(page);
-    let spare = 8 + 8 * reads + 12 * writes;
-    if bytes::any_set(page, spare, CHECK) {
+    let spare = layout::spare_at(reads, writes);
+    if bytes::any_set(page, spare, layout::CHECK) {
         let refusal = Refusal {
             number: refusals::SPARE_BYTE,
             place: 0,
         };
         return PageCheck::Bad { refusal };
     }
-    PageCheck::Good { reads, writes }
+    PageCheck::Good {
+        reads: reads as u32,
+        writes: writes as u32,
+    }
 }

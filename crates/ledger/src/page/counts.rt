@@ -1,36 +1,22 @@
 // 4 and 5: the counts of a page or a transaction.
+use crate::layout;
 use refusals::Finding;
-use refusals::Refusal;
 ghost use mathlib.Core.Path.{_≡_};
 ghost use Rattle.ledger.specs.Page.{countRows};
-ghost use Rattle.refusals.specs.Fault.{fault, first, finding};
-
-// The most reads, and the most writes.
-pub const MOST: usize = 32;
-
-// The bytes that reads and writes share.
-pub const ROOM: usize = 500;
-
-// What a test finds that fails a page or a transaction.
-pub fn found(number: u32) -> Finding
-    ensures { λ r. ⌜ finding r ≡ fault number 0 ⌝ }
-{
-    let refusal = Refusal { number, place: 0 };
-    Finding::Found { refusal }
-}
+ghost use Rattle.refusals.specs.Fault.{first, finding};
 
 // The first fault of the counts.
 pub fn count_fault(r: usize, w: usize) -> Finding
     ensures { λ x. ⌜ finding x ≡ first (countRows r w) ⌝ }
 {
-    if r > MOST {
-        return found(refusals::COUNTS);
+    if r > layout::MOST_ENTRIES {
+        return refusals::found(refusals::COUNTS, 0);
     }
-    if w > MOST {
-        return found(refusals::COUNTS);
+    if w > layout::MOST_ENTRIES {
+        return refusals::found(refusals::COUNTS, 0);
     }
-    if 8 * r + 12 * w > ROOM {
-        return found(refusals::SIZE);
+    if layout::spare_at(r, w) > layout::CHECK {
+        return refusals::found(refusals::SIZE, 0);
     }
     Finding::Clear
 }

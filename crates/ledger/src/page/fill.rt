@@ -1,9 +1,8 @@
-// Filling the 512 bytes of a page with a transaction, in place.
+// A transaction as bytes, and the 512 bytes of a page filled in place.
 use crate::Read;
 use crate::Transaction;
 use crate::Write;
-use crate::page::check;
-use crate::page::counts;
+use crate::layout;
 use octets::bytes;
 use octets::weight;
 ghost use mathlib.Core.Path.{_≡_};
@@ -11,8 +10,9 @@ ghost use Prim.Native.Nat.{_+_, _*_, _≤_};
 ghost use lib.ListN.{length};
 ghost use lib.Seq.{sets};
 ghost use Rattle.lists.specs.Tables.{flat};
+ghost use Rattle.octets.specs.Bytes.{le, weighed};
 ghost use Rattle.ledger.specs.Tx.{valueTx, readOf, writeOf};
-ghost use Rattle.ledger.specs.Page.{readBytes, writeBytes, headBytes, pageOf, size};
+ghost use Rattle.ledger.specs.Page.{readBytes, writeBytes, headBytes, laidOf, size};
 
 // The eight bytes of a read.
 fn put_read(p: &mut [u8], at: usize, x: Read)
@@ -36,25 +36,25 @@ fn put_write(p: &mut [u8], at: usize, x: Write)
 }
 
 // The bytes of the first `n` reads.
-fn put_reads(p: &mut [u8], at: usize, xs: [Read; 32], n: usize)
+fn put_reads(p: &mut [u8], at: usize, xs: [Read; layout::MOST_ENTRIES], n: usize)
     requires { ⌜ (n ≤ 32) × (at + 8 * n ≤ length (now p)) ⌝ }
     ensures { λ _. ⌜ now (p .exit) ≡ sets (now (p .entry)) at (flat n (λ i. readBytes (readOf xs i))) ⌝ }
 {
     let mut i = 0;
     while i < n {
-        put_read(p, at + 8 * i, xs[i]);
+        put_read(p, at + layout::READ * i, xs[i]);
         i += 1;
     }
 }
 
 // The bytes of the first `n` writes.
-fn put_writes(p: &mut [u8], at: usize, xs: [Write; 32], n: usize)
+fn put_writes(p: &mut [u8], at: usize, xs: [Write; layout::MOST_ENTRIES], n: usize)
     requires { ⌜ (n ≤ 32) × (at + 12 * n ≤ length (now p)) ⌝ }
     ensures { λ _. ⌜ now (p .exit) ≡ sets (now (p .entry)) at (flat n (λ i. writeBytes (writeOf xs i))) ⌝ }
 {
     let mut i = 0;
     while i < n {
-        put_write(p, at + 12 * i, xs[i]);
+        put_write(p, at + layout::WRITE * i, xs[i]);
         i += 1;
     }
 }
@@ -64,27 +64,33 @@ fn put_head(p: &mut [u8], r: usize, w: usize, ticket: u32)
     requires { ⌜ (8 ≤ length (now p)) × (r ≤ 32) × (w ≤ 32) ⌝ }
     ensures { λ _. ⌜ now (p .exit) ≡ sets (now (p .entry)) 0 (headBytes r w ticket) ⌝ }
 {
-    p[0] = check::MARK;
-    p[1] = r as u8;
-    p[2] = w as u8;
-    p[3] = 0;
-    bytes::put(p, 4, 4, ticket as u64);
+    p[0] = layout::MARK;
+    p[layout::READ_COUNT] = r as u8;
+    p[layout::WRITE_COUNT] = w as u8;
+    p[layout::ZERO] = 0;
+    bytes::put(p, layout::TICKET, 4, ticket as u64);
 }
 
-// The whole page.
-pub fn fill(p: &mut [u8], t: Transaction)
+// The head, the reads and the writes of a transaction.
+pub fn lay(p: &mut [u8], t: Transaction)
     requires { ⌜ (length (now p) ≡ 512) × (t .r ≤ 32) × (t .w ≤ 32) × (size (t .r) (t .w) ≤ 500) ⌝ }
-    ensures { λ _. ⌜ now (p .exit) ≡ pageOf (valueTx t) ⌝ }
+    ensures { λ _. ⌜ now (p .exit) ≡ sets (now (p .entry)) 0 (laidOf (valueTx t)) ⌝ }
 {
     let r = t.r;
     let w = t.w;
     let reads = t.reads;
     let writes = t.writes;
-    let size = 8 * r + 12 * w;
     put_head(p, r, w, t.ticket);
-    put_reads(p, 8, reads, r);
-    put_writes(p, 8 + 8 * r, writes, w);
-    bytes::put(p, 8 + size, counts::ROOM - size, 0);
+    put_reads(p, layout::HEAD, reads, r);
+    put_writes(p, layout::writes_at(r), writes, w);
+}
+
+// The whole page: the bytes that are laid out, and their check.
+pub fn fill(p: &mut [u8], laid: &[u8])
+    requires { ⌜ (length (now p) ≡ 512) × (length (now laid) ≡ 512) ⌝ }
+    ensures { λ _. ⌜ now (p .exit) ≡ sets (now (laid .entry)) 508 (le 4 (weighed (now (laid .entry)) 508)) ⌝ }
+{
+    bytes::copy(laid, p);
     let sum = weight::weigh(p);
-    bytes::put(p, check::CHECK, 4, sum as u64);
+    bytes::put(p, layout::CHECK, 4, sum as u64);
 }

@@ -2,6 +2,7 @@
 use crate::Read;
 use crate::Version;
 use crate::Write;
+use crate::layout;
 use octets::bytes;
 ghost use mathlib.Core.Path.{_≡_};
 ghost use Prim.Native.Nat.{_≤_, _<_};
@@ -14,7 +15,7 @@ pub fn ticket(page: &[u8]) -> u32
     requires { ⌜ 8 ≤ length (now page) ⌝ }
     ensures { λ x. ⌜ x ≡ pageTx (now (page .entry)) .ticket ⌝ }
 {
-    bytes::le4(page, 4)
+    bytes::le4(page, layout::TICKET)
 }
 
 // How many reads there are.
@@ -22,7 +23,7 @@ pub fn reads(page: &[u8]) -> usize
     requires { ⌜ Counted (now page) ⌝ }
     ensures { λ n. ⌜ n ≡ length (pageTx (now (page .entry)) .reads) ⌝ }
 {
-    page[1] as usize
+    page[layout::READ_COUNT] as usize
 }
 
 // How many writes there are.
@@ -30,7 +31,7 @@ pub fn writes(page: &[u8]) -> usize
     requires { ⌜ Counted (now page) ⌝ }
     ensures { λ n. ⌜ n ≡ length (pageTx (now (page .entry)) .writes) ⌝ }
 {
-    page[2] as usize
+    page[layout::WRITE_COUNT] as usize
 }
 
 // Read `i`.
@@ -39,7 +40,7 @@ pub fn read(page: &[u8], i: usize) -> Read
     requires { ⌜ i < length (pageTx (now page) .reads) ⌝ }
     ensures { λ x. ⌜ x ≡ readOf (pageTx (now (page .entry)) .reads) i ⌝ }
 {
-    let at = 8 + 8 * i;
+    let at = layout::HEAD + layout::READ * i;
     let place = bytes::le2(page, at + 2);
     let block = bytes::le4(page, at + 4);
     Read {
@@ -54,7 +55,7 @@ pub fn write(page: &[u8], i: usize) -> Write
     requires { ⌜ i < length (pageTx (now page) .writes) ⌝ }
     ensures { λ x. ⌜ x ≡ writeOf (pageTx (now (page .entry)) .writes) i ⌝ }
 {
-    let at = 8 + 8 * reads(page) + 12 * i;
+    let at = layout::writes_at(reads(page)) + layout::WRITE * i;
     Write {
         key: bytes::le2(page, at),
         kind: bytes::le2(page, at + 2),

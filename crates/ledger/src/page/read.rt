@@ -5,12 +5,14 @@ use crate::Read;
 use crate::Transaction;
 use crate::Version;
 use crate::Write;
+use crate::layout;
 use crate::page::check;
 use crate::page::held;
 ghost use mathlib.Core.Path.{_≡_};
 ghost use mathlib.Core.List.{_++_};
 ghost use Prim.Native.Nat.{_-_};
 ghost use lib.ListN.{length, replicate};
+ghost use Rattle.octets.specs.Bytes.{Small};
 ghost use Rattle.ledger.specs.Tx.{padded, noRead, noWrite, TransactionFits};
 ghost use Rattle.ledger.specs.Page.{pageTx, Counted};
 ghost use Rattle.ledger.specs.Services.{none, taken, readPage};
@@ -27,12 +29,14 @@ const NO_WRITE: Write = Write {
 };
 
 // The reads of a page, and zeros beyond them.
-fn all_reads(page: &[u8]) -> [Read; 32]
+fn all_reads(page: &[u8]) -> [Read; layout::MOST_ENTRIES]
     requires { ⌜ Counted (now page) ⌝ }
-    ensures { λ xs. ⌜ xs ≡ pageTx (now (page .entry)) .reads ++ replicate (32 - length (pageTx (now (page .entry)) .reads)) noRead ⌝ }
+    ensures { λ xs. ⌜
+        xs ≡ pageTx (now (page .entry)) .reads ++ replicate (32 - length (pageTx (now (page .entry)) .reads)) noRead
+        ⌝ }
 {
     let n = held::reads(page);
-    let mut xs = [NO_READ; 32];
+    let mut xs = [NO_READ; layout::MOST_ENTRIES];
     let mut i = 0;
     while i < n {
         xs[i] = held::read(page, i);
@@ -42,12 +46,15 @@ fn all_reads(page: &[u8]) -> [Read; 32]
 }
 
 // The writes of a page, and zeros beyond them.
-fn all_writes(page: &[u8]) -> [Write; 32]
+fn all_writes(page: &[u8]) -> [Write; layout::MOST_ENTRIES]
     requires { ⌜ Counted (now page) ⌝ }
-    ensures { λ xs. ⌜ xs ≡ pageTx (now (page .entry)) .writes ++ replicate (32 - length (pageTx (now (page .entry)) .writes)) noWrite ⌝ }
+    ensures { λ xs. ⌜
+        xs
+        ≡ pageTx (now (page .entry)) .writes ++ replicate (32 - length (pageTx (now (page .entry)) .writes)) noWrite
+        ⌝ }
 {
     let n = held::writes(page);
-    let mut xs = [NO_WRITE; 32];
+    let mut xs = [NO_WRITE; layout::MOST_ENTRIES];
     let mut i = 0;
     while i < n {
         xs[i] = held::write(page, i);
@@ -76,8 +83,8 @@ fn transaction(page: &[u8]) -> Transaction
 fn nothing() -> Transaction
     ensures { λ t. ⌜ t ≡ none ⌝ }
 {
-    let reads = [NO_READ; 32];
-    let writes = [NO_WRITE; 32];
+    let reads = [NO_READ; layout::MOST_ENTRIES];
+    let writes = [NO_WRITE; layout::MOST_ENTRIES];
     Transaction {
         ticket: 0,
         r: 0,
@@ -108,3 +115,13 @@ pub fn read_page(page: &[u8]) -> PageRead
 pub fn fitted(t: Transaction)
     ensures { λ _. ⌜ TransactionFits t ⌝ }
 {}
+
+// Nothing: at a call, a proof is told what each lent slice holds.
+fn told() {}
+
+// Any slice of bytes holds bytes.
+pub fn small(page: &[u8])
+    ensures { λ _. ⌜ Small (now (page .entry)) ⌝ }
+{
+    told();
+}

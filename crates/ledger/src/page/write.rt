@@ -1,36 +1,34 @@
 // Writing a page in place, in the middle of a lent batch.
-use crate::PageWrite;
 use crate::Transaction;
+use crate::layout;
 use crate::page::check;
 use crate::page::counts;
 use crate::page::fill;
-use crate::page::given;
+use refusals::Answer;
 use refusals::Finding;
-use refusals::Refusal;
 ghost use mathlib.Core.Path.{_≡_};
 ghost use Rattle.ledger.specs.Services.{put, writePage};
 
 // Writes a page at a page index of a batch of any length: refusals 4 to 9, then 17.
-pub fn write_page(batch: &mut [u8], index: usize, t: Transaction) -> PageWrite
+// The entries are laid out and checked apart, so that a refusal leaves the batch as it was.
+pub fn write_page(batch: &mut [u8], index: usize, t: Transaction) -> Answer
     ensures { λ x. ⌜ put x (now (batch .exit)) ≡ writePage (now (batch .entry)) index t ⌝ }
 {
     let found = counts::count_fault(t.r, t.w);
     if let Finding::Found { refusal } = found {
-        return PageWrite::Unwritten { refusal };
+        return Answer::Refused { refusal };
     }
-    let found = given::entry_fault(t);
+    let mut laid = [0u8; layout::PAGE];
+    fill::lay(&mut laid, t);
+    let found = check::entry_fault(&laid);
     if let Finding::Found { refusal } = found {
-        return PageWrite::Unwritten { refusal };
+        return Answer::Refused { refusal };
     }
-    if index >= batch.len() / check::PAGE {
-        let refusal = Refusal {
-            number: refusals::PAGE_INDEX,
-            place: 0,
-        };
-        return PageWrite::Unwritten { refusal };
+    if index >= batch.len() / layout::PAGE {
+        return refusals::refused(refusals::PAGE_INDEX, 0);
     }
-    let start = index * check::PAGE;
-    let end = start + check::PAGE;
-    fill::fill(&mut batch[start..end], t);
-    PageWrite::Written
+    let start = index * layout::PAGE;
+    let end = start + layout::PAGE;
+    fill::fill(&mut batch[start..end], &laid);
+    Answer::Count { count: 0 }
 }

@@ -1,20 +1,15 @@
 -- `nevolisca_commit`: the ledger's answer as a word.
+use Rattle.node.specs.Lent.{commitLeft}
 use borrow.Author.Needs.{needs}
-use Rattle.node.proofs.Worded.{commit-passed, commit-not}
+use mathlib.Core.Path.{ap}
 use Rattle.node.proofs.nevolisca_commit.Statement.{statement}
 use Rattle.node.proofs.nevolisca_commit.Tie as tie
 
 commit-batch-requires : tie.Need-commit-batch-requires
 commit-batch-requires c κs = search needs
 
-enum-known-pages : tie.Need-enum-known-pages
-enum-known-pages c = search needs
-
-enum-known-refusal : tie.Need-enum-known-refusal
-enum-known-refusal c = search needs
-
-refused-requires : tie.Need-refused-requires
-refused-requires c κs = search needs
+answered-requires : tie.Need-answered-requires
+answered-requires c κs = search needs
 
 same-length : tie.Need-same-length
 same-length c = search needs
@@ -29,42 +24,16 @@ same-length-4 : tie.Need-same-length-4
 same-length-4 c = search needs
 
 returns : tie.Need-returns
-returns c =
-    let k = c .before in
-    commit-passed _ _ _ _ (k .before .before .before .before .before .before .before .before .before .commit-batch .ensures) _ (k .pages .given .1)
-
-same-length-5 : tie.Need-same-length-5
-same-length-5 c = search needs
-
-same-length-6 : tie.Need-same-length-6
-same-length-6 c = search needs
-
-same-length-7 : tie.Need-same-length-7
-same-length-7 c = search needs
-
-same-length-8 : tie.Need-same-length-8
-same-length-8 c = search needs
-
-returns-2 : tie.Need-returns-2
-returns-2 c =
-    let k = c .before .before in
-    commit-not _ _ _ _ (k .before .before .before .before .before .before .before .before .before .commit-batch .ensures) _ _ (c .refused .ensures) (k .refusal .given .1)
+returns c = rw (c .answered .ensures) (ap commitLeft (c .before .before .before .before .before .before .before .before .commit-batch .ensures))
 
 pub nevolisca-commit-spec : {M : Type 1} → statement M
 nevolisca-commit-spec =
     tie.close
     (tie.spec
     commit-batch-requires
-    enum-known-pages
-    enum-known-refusal
-    refused-requires
+    answered-requires
     same-length
     same-length-2
     same-length-3
     same-length-4
-    returns
-    same-length-5
-    same-length-6
-    same-length-7
-    same-length-8
-    returns-2)
+    returns)

@@ -1,11 +1,10 @@
 -- `nevolisca_write_page`: the transaction in the arrays, written by the service below.
-use mathlib.Core.Path.{_≡_, ap, _∙_}
+use Rattle.ledger.specs.Services.{put, writePage}
+use Rattle.node.proofs.Paged.{lent-is}
+use Rattle.node.specs.Lent.{Arrays, lentTx, putLeft}
 use borrow.Author.Needs.{needs}
 use denote.Ref.{now}
-use Rattle.ledger.specs.Services.{put, writePage}
-use Rattle.node.specs.Lent.{Arrays, lentTx}
-use Rattle.node.proofs.Worded.{page-written, page-unwritten}
-use Rattle.node.proofs.Paged.{lent-is}
+use mathlib.Core.Path.{_≡_, ap, _∙_}
 use Rattle.node.proofs.nevolisca_write_page.Statement.{statement}
 use Rattle.node.proofs.nevolisca_write_page.Tie as tie
 
@@ -43,8 +42,8 @@ reads-of-requires c κs = search needs
 writes-of-requires : tie.Need-writes-of-requires
 writes-of-requires c κs = search needs
 
-element-copy-out-t16 : tie.Need-element-copy-out-t16
-element-copy-out-t16 c = search needs
+element-copy-out-t15 : tie.Need-element-copy-out-t15
+element-copy-out-t15 c = search needs
 
 element-copy-out-count : tie.Need-element-copy-out-count
 element-copy-out-count c = search needs
@@ -61,28 +60,14 @@ count-requires-2 c κs = search needs
 write-page-requires : tie.Need-write-page-requires
 write-page-requires c κs = search needs
 
-enum-told : tie.Need-enum-told
-enum-told c = search needs
-
-enum-known-refusal : tie.Need-enum-known-refusal
-enum-known-refusal c = search needs
-
-refused-requires : tie.Need-refused-requires
-refused-requires c κs = search needs
+answered-requires : tie.Need-answered-requires
+answered-requires c κs = search needs
 
 same-length : tie.Need-same-length
 same-length c = search needs
 
 returns : tie.Need-returns
-returns c = page-written _ _ _ (done (c .before .before .before .before)) (c .enum-told .given .1)
-
-same-length-2 : tie.Need-same-length-2
-same-length-2 c = search needs
-
-returns-2 : tie.Need-returns-2
-returns-2 c =
-    let k = c .before .before in
-    page-unwritten _ _ _ (done (k .before .before .before .before)) _ _ (c .refused .ensures) (k .refusal .given .1)
+returns c = rw (c .answered .ensures) (ap putLeft (done (c .before .before .before)))
 
 pub nevolisca-write-page-spec : {M : Type 1} → statement M
 nevolisca-write-page-spec =
@@ -90,16 +75,12 @@ nevolisca-write-page-spec =
     (tie.spec
     reads-of-requires
     writes-of-requires
-    element-copy-out-t16
+    element-copy-out-t15
     element-copy-out-count
     count-requires
     element-copy-out-count-2
     count-requires-2
     write-page-requires
-    enum-told
-    enum-known-refusal
-    refused-requires
+    answered-requires
     same-length
-    returns
-    same-length-2
-    returns-2)
+    returns)

@@ -1,13 +1,12 @@
 -- `first_beyond`: a search by page.
-use mathlib.Core.Path.{_≡_, sym, ap, _∙_}
 use Prim.Native.Nat.{_-_}
-use native.Mathlib.Omega.{arith}
+use Rattle.ledger.specs.Gate.{txAt, beyond}
+use Rattle.ledger.specs.Page.{pageTx}
+use Rattle.lists.proofs.Loops.{Unfound, begins, found, passes, ends}
 use borrow.Author.Needs.{needs}
 use denote.Ref.{now}
-use Rattle.lists.proofs.Loops.{Unfound, begins, found, passes, ends}
-use Rattle.ledger.specs.Page.{pageTx}
-use Rattle.ledger.specs.Gate.{txAt, beyond}
-use Rattle.ledger.proofs.Gated.{lent}
+use mathlib.Core.Path.{_≡_, sym, ap, _∙_}
+use native.Mathlib.Omega.{arith}
 use Rattle.ledger.proofs.batch.first_beyond.Statement.{statement}
 use Rattle.ledger.proofs.batch.first_beyond.Tie as tie
 
@@ -17,37 +16,25 @@ Inv-loop batch m keys i₀ i = Unfound (λ j. beyond keys (txAt batch j)) 0 m i
 abbrev μ-loop : tie.MeasureT-loop
 μ-loop batch m keys i₀ i = m - i
 
--- the part that was checked is page i
+-- what was asked of page i
 test : (c : tie.After-reaches-beyond Inv-loop μ-loop)
     → let a = c .before .before .before .before .before .args in
     c .reaches-beyond .result ≡ beyond (a .keys) (txAt (now (a .batch)) (c .before .before .before .loop .i))
 test c =
     let a = c .before .before .before .before .before .args in
-    c .reaches-beyond .ensures ∙ ap (λ p. beyond (a .keys) (pageTx p)) (lent (now (a .batch)) (c .before .before .before .loop .i))
+    c .reaches-beyond .ensures ∙ ap (λ p. beyond (a .keys) (pageTx p)) (c .before .page-at .ensures)
 
 loop-holds : tie.Need-loop-holds Inv-loop μ-loop
 loop-holds c = begins _ _ _ (omega arith)
 
-mul-start : tie.Need-mul-start Inv-loop μ-loop
-mul-start c = search needs
-
-add-end : tie.Need-add-end Inv-loop μ-loop
-add-end c = search needs
-
-sub-reaches-beyond : tie.Need-sub-reaches-beyond Inv-loop μ-loop
-sub-reaches-beyond c = search needs
-
-part-reaches-beyond-start : tie.Need-part-reaches-beyond-start Inv-loop μ-loop
-part-reaches-beyond-start c = search needs
-
-part-reaches-beyond-end : tie.Need-part-reaches-beyond-end Inv-loop μ-loop
-part-reaches-beyond-end c = search needs
+page-at-requires : tie.Need-page-at-requires Inv-loop μ-loop
+page-at-requires c κs = search needs
 
 reaches-beyond-requires : tie.Need-reaches-beyond-requires Inv-loop μ-loop
 reaches-beyond-requires c κs =
     let h = c .before .before in
     let s = h .before .before in
-    rw (lent (now (s .args .batch)) (h .loop .i)) (s .pre .1 (h .loop .i) (c .before .loop-test .taken))
+    rw (c .page-at .ensures) (s .pre .1 (h .loop .i) (c .before .loop-test .taken))
 
 returns : tie.Need-returns Inv-loop μ-loop
 returns c =
@@ -75,11 +62,7 @@ first-beyond-spec =
     Inv-loop
     μ-loop
     loop-holds
-    mul-start
-    add-end
-    sub-reaches-beyond
-    part-reaches-beyond-start
-    part-reaches-beyond-end
+    page-at-requires
     reaches-beyond-requires
     returns
     add-i

@@ -22,7 +22,7 @@ returns c =
     let p = c .before in
     let a = p .before .before .before .before .before .before .args in
     let e = not-true (p .passes .result) (c .if1 .taken) in
-    let f = p .passes .ensures (now (a .values)) in
+    let f = p .passes .ensures in
     (sym e ∙ f, page-fails (a .n) (a .i) _ _ (sym f ∙ e))
 
 apply-requires : tie.Need-apply-requires
@@ -44,7 +44,7 @@ returns-2 c =
     let p = e .before in
     let a = p .before .before .before .before .before .before .args in
     let q = not-false (p .passes .result) (e .if1 .left) in
-    let f = p .passes .ensures (now (a .values)) in
+    let f = p .passes .ensures in
     let l = w .apply .last .1 in
     (sym q ∙ f, page-passes (a .n) (a .i) _ _ (stateOf (l .0) (l .1 .0) (l .1 .1 .0)) (sym f ∙ q) (w .apply .ensures))
 

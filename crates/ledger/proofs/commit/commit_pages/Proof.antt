@@ -11,7 +11,6 @@ use denote.Ref.{now}
 use lib.ListN.{length, set}
 use Rattle.lists.specs.Choice.{pick}
 use Rattle.ledger.specs.State.{State, stateOf}
-use Rattle.ledger.proofs.Gated.{lent, lent-ready}
 use Rattle.ledger.proofs.Commits.{Kept, kept-level, Committing, committing-begins, committing-kept, committing-long, committing-turns, committing-ends}
 use Rattle.ledger.proofs.commit.commit_pages.Statement.{statement}
 use Rattle.ledger.proofs.commit.commit_pages.Tie as tie
@@ -66,7 +65,7 @@ next v b count verdicts e f g =
     let l = p .commit-page .last .1 in
     committing-turns _ _ _ _ _ _ _ _ (t .before .loop .inv .2) _ b count (stateOf (l .0) (l .1 .0) (l .1 .1 .0)) verdicts
     (omega (arith, t .loop-test .taken, s .pre .1 .1))
-    (lent (now (s .args .batch)) (t .before .loop .i))
+    (p .before .before .before .before .page-at .ensures)
     (sym e ∙ p .commit-page .ensures .0)
     (p .commit-page .ensures .1)
     f
@@ -75,20 +74,8 @@ next v b count verdicts e f g =
 loop-holds : tie.Need-loop-holds Inv-loop μ-loop
 loop-holds c = (omega arith, omega arith, committing-begins _ _ _ _)
 
-mul-start : tie.Need-mul-start Inv-loop μ-loop
-mul-start c = search needs
-
-add-end : tie.Need-add-end Inv-loop μ-loop
-add-end c = search needs
-
-sub-commit-page : tie.Need-sub-commit-page Inv-loop μ-loop
-sub-commit-page c = search needs
-
-part-commit-page-start : tie.Need-part-commit-page-start Inv-loop μ-loop
-part-commit-page-start c = search needs
-
-part-commit-page-end : tie.Need-part-commit-page-end Inv-loop μ-loop
-part-commit-page-end c = search needs
+page-at-requires : tie.Need-page-at-requires Inv-loop μ-loop
+page-at-requires c κs = omega (arith, c .loop-test .taken, start c .pre .0 .whole)
 
 cast-commit-page : tie.Need-cast-commit-page Inv-loop μ-loop
 cast-commit-page c = search needs
@@ -97,7 +84,7 @@ commit-page-requires : tie.Need-commit-page-requires Inv-loop μ-loop
 commit-page-requires c κs =
     let t = c .before .before .before .before in
     let s = start t in (
-      lent-ready (now (s .args .batch)) (t .before .loop .i) _ _ (kept t .blocks) (s .pre .0 .each (t .before .loop .i) (t .loop-test .taken)),
+      rw (c .before .before .before .page-at .ensures, kept t .blocks) (s .pre .0 .each (t .before .loop .i) (t .loop-test .taken)),
       kept-level (entered s) (here t) (kept t) (s .pre .1 .0),
     )
 
@@ -153,11 +140,7 @@ commit-pages-spec =
     Inv-loop
     μ-loop
     loop-holds
-    mul-start
-    add-end
-    sub-commit-page
-    part-commit-page-start
-    part-commit-page-end
+    page-at-requires
     cast-commit-page
     commit-page-requires
     slice-write-verdicts

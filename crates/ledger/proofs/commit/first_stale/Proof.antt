@@ -7,13 +7,12 @@ use native.Mathlib.Omega.{arith}
 use borrow.Author.Needs.{needs}
 use denote.Ref.{now}
 use lib.ListN.{length}
-use lib.IntN.{ℤ}
 use Rattle.lists.proofs.Loops.{Unfound, begins, found, passes, ends}
 use Rattle.ledger.specs.declared.Read.{Read}
 use Rattle.ledger.specs.Version.{same}
 use Rattle.ledger.specs.Tx.{readOf}
 use Rattle.ledger.specs.Page.{pageTx, Counted}
-use Rattle.ledger.specs.State.{stateOf, entry}
+use Rattle.ledger.specs.State.{versionsIn}
 use Rattle.ledger.specs.Commit.{names}
 use Rattle.ledger.proofs.Pages.{good-counted}
 use Rattle.ledger.proofs.Rising.{below}
@@ -21,11 +20,11 @@ use Rattle.ledger.proofs.commit.first_stale.Statement.{statement}
 use Rattle.ledger.proofs.commit.first_stale.Tie as tie
 
 -- read j does not name the version of its key
-abbrev stale : List ℕ → List ℕ → List ℕ → List ℤ → ℕ → Bool
-stale page blocks places v j = not (names (stateOf blocks places v) (readOf (pageTx page .reads) j))
+abbrev stale : List ℕ → List ℕ → List ℕ → ℕ → Bool
+stale page blocks places j = not (names (versionsIn blocks places) (readOf (pageTx page .reads) j))
 
 abbrev Inv-loop : tie.InvT-loop
-Inv-loop page blocks places n i₀ i = (v : List ℤ) → Unfound (stale page blocks places v) 0 (length (pageTx page .reads)) i
+Inv-loop page blocks places n i₀ i = Unfound (stale page blocks places) 0 (length (pageTx page .reads)) i
 
 abbrev μ-loop : tie.MeasureT-loop
 μ-loop page blocks places n i₀ i = n - i
@@ -38,24 +37,23 @@ within : (c : tie.In-loop Inv-loop μ-loop) → c .before .loop .i < length (pag
 within c = omega (arith, c .loop-test .taken, c .before .before .reads .ensures)
 
 -- the code's test, as the search's
-test : (c : tie.After-same Inv-loop μ-loop) (v : List ℤ)
+test : (c : tie.After-same Inv-loop μ-loop)
     → let h = c .before .before .before .before .before .before in
     let a = h .before .before .before .before .before .args in
-    not (c .same .result) ≡ stale (now (a .page)) (now (a .blocks)) (now (a .places)) v (h .loop .i)
-unfolding entry
-test c v =
+    not (c .same .result) ≡ stale (now (a .page)) (now (a .blocks)) (now (a .places)) (h .loop .i)
+test c =
     let x = c .before .before .before .before in
     let a = x .before .before .before .before .before .before .before .args in
     ap not
     (c .same .ensures
     ∙ ap (λ y. same (x .read .result .version) y) (c .before .version-at .ensures)
-    ∙ ap (λ r. names (stateOf (now (a .blocks)) (now (a .places)) v) r) (x .read .ensures))
+    ∙ ap (names (versionsIn (now (a .blocks)) (now (a .places)))) (x .read .ensures))
 
 reads-requires : tie.Need-reads-requires Inv-loop μ-loop
 reads-requires c κs = counted (c .before .before .before)
 
 loop-holds : tie.Need-loop-holds Inv-loop μ-loop
-loop-holds c = λ v. begins _ _ _ (omega arith)
+loop-holds c = begins _ _ _ (omega arith)
 
 read-requires : tie.Need-read-requires Inv-loop μ-loop
 read-requires c κs = (counted (c .before .before .before .before .before .before), within c)
@@ -78,7 +76,7 @@ same-requires c κs = search needs
 returns : tie.Need-returns Inv-loop μ-loop
 returns c =
     let h = c .before .before .before .before .before .before .before in
-    λ v. found (h .loop .inv v) (within (c .before .before .before .before .before .before)) (sym (test (c .before) v) ∙ c .if1 .taken)
+    found (h .loop .inv) (within (c .before .before .before .before .before .before)) (sym (test (c .before)) ∙ c .if1 .taken)
 
 add-i : tie.Need-add-i Inv-loop μ-loop
 add-i c = search needs
@@ -89,12 +87,12 @@ loop-less c = search needs
 loop-again : tie.Need-loop-again Inv-loop μ-loop
 loop-again c =
     let h = c .before .before .before .before .before .before .before in
-    λ v. passes (h .loop .inv v) (within (c .before .before .before .before .before .before)) (sym (test (c .before) v) ∙ c .if1 .left)
+    passes (h .loop .inv) (within (c .before .before .before .before .before .before)) (sym (test (c .before)) ∙ c .if1 .left)
 
 returns-2 : tie.Need-returns-2 Inv-loop μ-loop
 returns-2 c =
-    λ v. c .before .before .reads .ensures
-    ∙ ends (c .before .loop .inv v) (omega (arith, c .loop-test .left, c .before .before .reads .ensures))
+    c .before .before .reads .ensures
+    ∙ ends (c .before .loop .inv) (omega (arith, c .loop-test .left, c .before .before .reads .ensures))
 
 pub first-stale-spec : {M : Type 1} → statement M
 first-stale-spec =

@@ -1,7 +1,7 @@
 -- `passes`: the search found none.
 use denote.Ref.{now}
 use Rattle.ledger.specs.Page.{pageTx}
-use Rattle.ledger.specs.State.{stateOf}
+use Rattle.ledger.specs.State.{versionsIn}
 use Rattle.ledger.proofs.Pages.{good-counted}
 use Rattle.ledger.proofs.Commits.{passes-search}
 use borrow.Author.Needs.{needs}
@@ -18,7 +18,7 @@ returns : tie.Need-returns
 returns c =
     let f = c .before in
     let a = f .before .before .before .before .args in
-    λ v. passes-search (stateOf (now (a .blocks)) (now (a .places)) v) (pageTx (now (a .page))) _ _ (c .reads .ensures) (f .first-stale .ensures v)
+    passes-search (versionsIn (now (a .blocks)) (now (a .places))) (pageTx (now (a .page))) _ _ (c .reads .ensures) (f .first-stale .ensures)
 
 pub passes-spec : {M : Type 1} → statement M
 passes-spec = tie.close (tie.spec first-stale-requires reads-requires returns)

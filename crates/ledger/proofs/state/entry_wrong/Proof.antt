@@ -1,8 +1,8 @@
 -- `entry_wrong`: an ordinary place decides first, then whether the entry is absent.
-use mathlib.Core.Path.{sym, _∙_}
+use Rattle.ledger.proofs.Entries.{wrong-ordinary, wrong-other}
 use borrow.Author.Needs.{needs}
-use borrow.Author.Tests.{not-true, not-false}
-use Rattle.ledger.proofs.Entries.{wrong-ordinary, wrong-place, wrong-value}
+use mathlib.Core.Bool.{not}
+use mathlib.Core.Path.{sym, ap, _∙_}
 use Rattle.ledger.proofs.state.entry_wrong.Statement.{statement}
 use Rattle.ledger.proofs.state.entry_wrong.Tie as tie
 
@@ -12,25 +12,17 @@ ordinary-requires c κs = search needs
 returns : tie.Need-returns
 returns c =
     let o = c .before .before in
-    let a = o .before .args in
-    wrong-ordinary (a .n) (a .version) (a .value) (sym (o .ordinary .ensures) ∙ c .before .if1 .taken)
+    let e = o .before .before .args .e in
+    wrong-ordinary _ (e .version) (e .value) (sym (o .ordinary .ensures) ∙ c .before .if1 .taken)
 
-same-requires : tie.Need-same-requires
-same-requires c κs = search needs
+is-absent-requires : tie.Need-is-absent-requires
+is-absent-requires c κs = search needs
 
 returns-2 : tie.Need-returns-2
 returns-2 c =
-    let s = c .before in
-    let o = s .before .before in
-    let a = o .before .args in
-    wrong-place (a .n) (a .version) (a .value) (sym (o .ordinary .ensures) ∙ s .before .if1 .left) (sym (s .same .ensures) ∙ not-true (s .same .result) (c .if2 .taken))
-
-returns-3 : tie.Need-returns-3
-returns-3 c =
-    let s = c .before in
-    let o = s .before .before in
-    let a = o .before .args in
-    wrong-value (a .n) (a .version) (a .value) (sym (o .ordinary .ensures) ∙ s .before .if1 .left) (sym (s .same .ensures) ∙ not-false (s .same .result) (c .if2 .left))
+    let o = c .before .before in
+    let a = o .before .before .args in
+    ap not (c .is-absent .ensures) ∙ wrong-other (a .n) (a .e .version) (a .e .value) (sym (o .ordinary .ensures) ∙ c .before .if1 .left)
 
 pub entry-wrong-spec : {M : Type 1} → statement M
-entry-wrong-spec = tie.close (tie.spec ordinary-requires returns same-requires returns-2 returns-3)
+entry-wrong-spec = tie.close (tie.spec ordinary-requires returns is-absent-requires returns-2)

@@ -1,7 +1,6 @@
 -- `store`: one store in each list.
-use borrow.Author.Needs.{needs}
-use mir.Facts.{toZ-ofZ}
 use Rattle.ledger.specs.State.{store}
+use borrow.Author.Needs.{needs}
 use Rattle.ledger.proofs.state.store.Statement.{statement}
 use Rattle.ledger.proofs.state.store.Tie as tie
 
@@ -34,7 +33,7 @@ same-length-3 c = search needs
 
 returns : tie.Need-returns
 unfolding store
-returns c = rw (toZ-ofZ (c .fits .value))
+returns c = search needs
 
 pub store-spec : {M : Type 1} → statement M
 store-spec =

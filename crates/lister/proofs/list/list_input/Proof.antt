@@ -8,9 +8,9 @@ use lib.ListN.{length}
 use lib.Seq.{length-take-le}
 use borrow.Author.Needs.{needs}
 use Rattle.ledger.specs.State.{State, stateOf}
-use Rattle.planner.specs.declared.Planned.{Planned}
-use Rattle.planner.specs.Plan.{planned, planBatch}
-use Rattle.planner.proofs.Few.{plan-room}
+use Rattle.refusals.specs.declared.Answer.{Answer}
+use Rattle.planning.specs.Plan.{Plans, planned, planBatch}
+use Rattle.planning.proofs.Few.{plan-room}
 use Rattle.lister.specs.Written.{first, answer}
 use Rattle.lister.proofs.Told.{told-refused, told-listed, filled-long}
 use Rattle.lister.proofs.list.list_input.Statement.{statement}
@@ -34,14 +34,14 @@ plan c = c .before .before .before .before .before .before .before .before
 is-kept : (c : tie.After-pages)
     → let p = plan c in
     let s = start p in
-    planned (Planned.Kept (c .pages .given .0 .0)) (p .plan-batch .last .1 .1 .1 .1 .1 .0) (p .plan-batch .last .1 .1 .1 .1 .1 .1 .0) (p .plan-batch .last .1 .1 .1 .1 .1 .1 .1 .0)
+    planned (Answer.Count (c .pages .given .0 .0)) (p .plan-batch .last .1 .1 .1 .1 .1 .0) (p .plan-batch .last .1 .1 .1 .1 .1 .1 .0) (p .plan-batch .last .1 .1 .1 .1 .1 .1 .1 .0)
     ≡ planBatch (now (s .args .input)) (entered s) first (now (s .args .verdicts)) (now (s .args .order)) (now (s .args .out))
 is-kept c =
     let p = plan c in
-    ap (λ (x : Planned). planned x (p .plan-batch .last .1 .1 .1 .1 .1 .0) (p .plan-batch .last .1 .1 .1 .1 .1 .1 .0) (p .plan-batch .last .1 .1 .1 .1 .1 .1 .1 .0)) (sym (c .pages .given .1)) ∙ p .plan-batch .ensures
+    ap (λ (x : Answer). planned x (p .plan-batch .last .1 .1 .1 .1 .1 .0) (p .plan-batch .last .1 .1 .1 .1 .1 .1 .0) (p .plan-batch .last .1 .1 .1 .1 .1 .1 .1 .0)) (sym (c .pages .given .1)) ∙ p .plan-batch .ensures
 
 room : (c : tie.After-pages) → (c .pages .given .0 .0 ≤ 64) × (512 * c .pages .given .0 .0 ≤ length (now (start (plan c) .args .out)))
-room c = plan-room _ _ _ _ _ _ _ _ _ _ (is-kept c)
+room c = plan-room _ _ _ _ _ _ _ (ap (λ (x : Plans). x .answer) (sym (is-kept c)))
 
 plan-batch-requires : tie.Need-plan-batch-requires
 plan-batch-requires c κs = search needs
@@ -98,7 +98,7 @@ returns c =
     let p = r .before .before .before .before .before .before .before .before in
     let x =
     told-refused _ _ _ _ _ _ _ _ _
-    (ap (λ (x : Planned). planned x (p .plan-batch .last .1 .1 .1 .1 .1 .0) (p .plan-batch .last .1 .1 .1 .1 .1 .1 .0) (p .plan-batch .last .1 .1 .1 .1 .1 .1 .1 .0)) (sym (r .refusal .given .1)) ∙ p .plan-batch .ensures)
+    (ap (λ (x : Answer). planned x (p .plan-batch .last .1 .1 .1 .1 .1 .0) (p .plan-batch .last .1 .1 .1 .1 .1 .1 .0) (p .plan-batch .last .1 .1 .1 .1 .1 .1 .1 .0)) (sym (r .refusal .given .1)) ∙ p .plan-batch .ensures)
     _ _ (f .fill-refusal .ensures)
     in
     (filled-long (now (start p .args .text)) (due (start p)) _ _ x, x)

@@ -6,7 +6,7 @@ use borrow.Author.Needs.{needs}
 use denote.Ref.{now}
 use lib.ListN.{length}
 use Rattle.planner.specs.Ranks.{nth}
-use Rattle.planner.proofs.Demanding.{Reading, lent-good, reading-begins, reading-turns}
+use Rattle.planner.proofs.Demanding.{Reading, reading-begins, reading-turns}
 use Rattle.planner.proofs.demand.all_readers.Statement.{statement}
 use Rattle.planner.proofs.demand.all_readers.Tie as tie
 
@@ -26,26 +26,14 @@ inside c = start (c .before) .pre .inside (c .before .loop .r) (c .loop-test .ta
 loop-holds : tie.Need-loop-holds Inv-loop μ-loop
 loop-holds c = (omega arith, reading-begins _ _)
 
-element-copy-out-start : tie.Need-element-copy-out-start Inv-loop μ-loop
-element-copy-out-start c = omega (arith, c .loop-test .taken, start (c .before) .pre .few)
+element-copy-out-page : tie.Need-element-copy-out-page Inv-loop μ-loop
+element-copy-out-page c = omega (arith, c .loop-test .taken, start (c .before) .pre .few)
 
-cast-start : tie.Need-cast-start Inv-loop μ-loop
-cast-start c = omega (arith, inside (c .before))
+cast-page : tie.Need-cast-page Inv-loop μ-loop
+cast-page c = omega (arith, inside (c .before))
 
-mul-start : tie.Need-mul-start Inv-loop μ-loop
-mul-start c = omega (arith, inside (c .before))
-
-add-end : tie.Need-add-end Inv-loop μ-loop
-add-end c = omega (arith, inside (c .before))
-
-sub-add-reads : tie.Need-sub-add-reads Inv-loop μ-loop
-sub-add-reads c = search needs
-
-part-add-reads-start : tie.Need-part-add-reads-start Inv-loop μ-loop
-part-add-reads-start c = search needs
-
-part-add-reads-end : tie.Need-part-add-reads-end Inv-loop μ-loop
-part-add-reads-end c = omega (arith, inside (c .before))
+page-at-requires : tie.Need-page-at-requires Inv-loop μ-loop
+page-at-requires c κs = inside (c .before)
 
 slice-aggregate-add-reads : tie.Need-slice-aggregate-add-reads Inv-loop μ-loop
 slice-aggregate-add-reads c = sym (c .before .before .before .before .loop .inv .1 .long)
@@ -55,7 +43,7 @@ add-reads-requires c κs =
     let t = c .before .before .before in
     let at = t .before in
     let s = start at in
-    (lent-good (now (s .args .batch)) (nth (now (s .args .pages)) (at .loop .r)) (s .pre .good (at .loop .r) (t .loop-test .taken)), (omega (arith, t .loop-test .taken, s .pre .few), at .loop .inv .1 .long))
+    (rw (c .before .page-at .ensures) (s .pre .good (at .loop .r) (t .loop-test .taken)), (omega (arith, t .loop-test .taken, s .pre .few), at .loop .inv .1 .long))
 
 add-r : tie.Need-add-r Inv-loop μ-loop
 add-r c = search needs
@@ -67,7 +55,7 @@ loop-again : tie.Need-loop-again Inv-loop μ-loop
 loop-again c =
     let t = c .before .before .before .before .before in
     let at = t .before in
-    (omega (arith, t .loop-test .taken), reading-turns _ _ _ _ (at .loop .r) (at .loop .inv .1) (c .before .add-reads .kept .1 .1 .0) (c .before .add-reads .ensures))
+    (omega (arith, t .loop-test .taken), reading-turns _ _ _ _ _ (at .loop .r) (at .loop .inv .1) (c .before .add-reads .kept .1 .1 .0) (c .before .before .before .page-at .ensures) (c .before .add-reads .ensures))
 
 returns : tie.Need-returns Inv-loop μ-loop
 returns c =
@@ -81,13 +69,9 @@ all-readers-spec =
     Inv-loop
     μ-loop
     loop-holds
-    element-copy-out-start
-    cast-start
-    mul-start
-    add-end
-    sub-add-reads
-    part-add-reads-start
-    part-add-reads-end
+    element-copy-out-page
+    cast-page
+    page-at-requires
     slice-aggregate-add-reads
     add-reads-requires
     add-r

@@ -6,7 +6,7 @@ use borrow.Author.Needs.{needs}
 use denote.Ref.{now}
 use lib.ListN.{length}
 use Rattle.planner.specs.Ranks.{nth}
-use Rattle.planner.proofs.Demanding.{Blocking, lent-good, blocking-begins, blocking-turns, blocking-ends}
+use Rattle.planner.proofs.Demanding.{Blocking, blocking-begins, blocking-turns, blocking-ends}
 use Rattle.planner.proofs.demand.blockers.Statement.{statement}
 use Rattle.planner.proofs.demand.blockers.Tie as tie
 
@@ -32,32 +32,20 @@ all-readers-requires c κs = c .before .pre
 loop-holds : tie.Need-loop-holds Inv-loop μ-loop
 loop-holds c = (omega arith, blocking-begins _ _ _ _ refl)
 
-element-copy-out-start : tie.Need-element-copy-out-start Inv-loop μ-loop
-element-copy-out-start c = low c
+element-copy-out-page : tie.Need-element-copy-out-page Inv-loop μ-loop
+element-copy-out-page c = low c
 
-cast-start : tie.Need-cast-start Inv-loop μ-loop
-cast-start c = omega (arith, inside (c .before))
+cast-page : tie.Need-cast-page Inv-loop μ-loop
+cast-page c = omega (arith, inside (c .before))
 
-mul-start : tie.Need-mul-start Inv-loop μ-loop
-mul-start c = omega (arith, inside (c .before))
-
-add-end : tie.Need-add-end Inv-loop μ-loop
-add-end c = omega (arith, inside (c .before))
-
-sub-blockers-of : tie.Need-sub-blockers-of Inv-loop μ-loop
-sub-blockers-of c = search needs
-
-part-blockers-of-start : tie.Need-part-blockers-of-start Inv-loop μ-loop
-part-blockers-of-start c = search needs
-
-part-blockers-of-end : tie.Need-part-blockers-of-end Inv-loop μ-loop
-part-blockers-of-end c = omega (arith, inside (c .before))
+page-at-requires : tie.Need-page-at-requires Inv-loop μ-loop
+page-at-requires c κs = inside (c .before)
 
 blockers-of-requires : tie.Need-blockers-of-requires Inv-loop μ-loop
 blockers-of-requires c κs =
     let t = c .before .before .before in
     let s = start (t .before) in
-    (lent-good (now (s .args .batch)) (nth (now (s .args .pages)) (t .before .loop .r)) (s .pre .good (t .before .loop .r) (t .loop-test .taken)), low t)
+    (rw (c .before .page-at .ensures) (s .pre .good (t .before .loop .r) (t .loop-test .taken)), low t)
 
 mul-blockers : tie.Need-mul-blockers Inv-loop μ-loop
 mul-blockers c = omega (arith, low (c .before .before .before .before))
@@ -75,7 +63,7 @@ loop-again : tie.Need-loop-again Inv-loop μ-loop
 loop-again c =
     let t = c .before .before .before .before in
     let at = t .before in
-    (omega (arith, t .loop-test .taken), blocking-turns (now (start at .args .batch)) (now (start at .args .pages)) (at .before .all-readers .result) _ (at .loop .r) _ (at .loop .inv .1) (low t) (c .blockers-of .ensures))
+    (omega (arith, t .loop-test .taken), blocking-turns (now (start at .args .batch)) (now (start at .args .pages)) (at .before .all-readers .result) _ _ (at .loop .r) _ (at .loop .inv .1) (low t) (c .before .before .page-at .ensures) (c .blockers-of .ensures))
 
 returns : tie.Need-returns Inv-loop μ-loop
 returns c =
@@ -91,13 +79,9 @@ blockers-spec =
     μ-loop
     all-readers-requires
     loop-holds
-    element-copy-out-start
-    cast-start
-    mul-start
-    add-end
-    sub-blockers-of
-    part-blockers-of-start
-    part-blockers-of-end
+    element-copy-out-page
+    cast-page
+    page-at-requires
     blockers-of-requires
     mul-blockers
     array-write-blockers

@@ -68,7 +68,8 @@ without-requires c κs = omega (arith, start (c .before) .pre .1)
 returns : tie.Need-returns Inv-loop μ-loop
 returns c =
     let at = c .before .before in
-    written-all (now (start at .args .readers)) (pageTx (now (start at .args .page)) .writes) (at .loop .i) _ _ _ (at .loop .inv .1) (omega (arith, c .before .loop-test .left, at .before .writes .ensures)) (c .without .ensures)
+    written-all (now (start at .args .readers)) (pageTx (now (start at .args .page))) (at .loop .i) _ _ _
+    (at .loop .inv .1) (omega (arith, c .before .loop-test .left, at .before .writes .ensures)) (c .without .ensures)
 
 pub blockers-of-spec : {M : Type 1} → statement M
 blockers-of-spec =

@@ -1,5 +1,5 @@
 -- `planner::fill::fill_out` meets its contract. The invariant: the first j pages are gathered; the measure is what is left of k. Assumes nothing.
-use mathlib.Core.Path.{_≡_, refl}
+use mathlib.Core.Path.{_≡_, refl, sym, ap, _∙_}
 use mathlib.Core.List.{_++_}
 use Prim.Native.Nat.{_+_, _-_, _*_, _≤_}
 use native.Mathlib.Omega.{arith}
@@ -7,7 +7,8 @@ use borrow.Author.Needs.{needs}
 use denote.Ref.{now}
 use lib.ListN.{length, getD, take, drop}
 use Rattle.ledger.proofs.Placed.{part-long}
-use Rattle.planner.specs.Plan.{gathered}
+use Rattle.ledger.proofs.Gated.{page-long}
+use Rattle.planning.specs.Plan.{gathered}
 use Rattle.planner.proofs.Filling.{gathers, gathers-long}
 use Rattle.planner.proofs.fill.fill_out.Statement.{statement}
 use Rattle.planner.proofs.fill.fill_out.Tie as tie
@@ -35,44 +36,35 @@ loop-holds : tie.Need-loop-holds Inv-loop μ-loop
 unfolding gathered
 loop-holds c = (omega arith, refl)
 
-shared-slice-read-start : tie.Need-shared-slice-read-start Inv-loop μ-loop
-shared-slice-read-start c = omega arith
+shared-slice-read-page : tie.Need-shared-slice-read-page Inv-loop μ-loop
+shared-slice-read-page c = omega arith
 
-cast-start : tie.Need-cast-start Inv-loop μ-loop
-cast-start c = omega (arith, inside (c .before))
+cast-page : tie.Need-cast-page Inv-loop μ-loop
+cast-page c = omega (arith, inside (c .before))
 
 mul-start : tie.Need-mul-start Inv-loop μ-loop
-mul-start c = omega (arith, inside (c .before))
+mul-start c = omega (arith, room (c .before))
 
 add-end : tie.Need-add-end Inv-loop μ-loop
-add-end c = omega (arith, inside (c .before))
+add-end c = omega (arith, room (c .before))
 
-mul-to : tie.Need-mul-to Inv-loop μ-loop
-mul-to c = omega (arith, room (c .before))
+page-at-requires : tie.Need-page-at-requires Inv-loop μ-loop
+page-at-requires c κs = inside (c .before)
 
-add-to-end : tie.Need-add-to-end Inv-loop μ-loop
-add-to-end c = omega (arith, room (c .before))
+sub-copy : tie.Need-sub-copy Inv-loop μ-loop
+sub-copy c = omega arith
 
-sub-copy-page : tie.Need-sub-copy-page Inv-loop μ-loop
-sub-copy-page c = omega arith
+part-copy-start : tie.Need-part-copy-start Inv-loop μ-loop
+part-copy-start c = omega arith
 
-part-copy-page-start : tie.Need-part-copy-page-start Inv-loop μ-loop
-part-copy-page-start c = omega arith
+part-copy-end : tie.Need-part-copy-end Inv-loop μ-loop
+part-copy-end c = omega (arith, room (c .before .before))
 
-part-copy-page-end : tie.Need-part-copy-page-end Inv-loop μ-loop
-part-copy-page-end c = omega (arith, inside (c .before))
-
-sub-copy-page-2 : tie.Need-sub-copy-page-2 Inv-loop μ-loop
-sub-copy-page-2 c = omega arith
-
-part-copy-page-start-2 : tie.Need-part-copy-page-start-2 Inv-loop μ-loop
-part-copy-page-start-2 c = omega arith
-
-part-copy-page-end-2 : tie.Need-part-copy-page-end-2 Inv-loop μ-loop
-part-copy-page-end-2 c = omega (arith, room (c .before .before))
-
-copy-page-requires : tie.Need-copy-page-requires Inv-loop μ-loop
-copy-page-requires c κs = let t = c .before .before .before in (part-long _ _ (inside t), part-long _ _ (room t))
+copy-requires : tie.Need-copy-requires Inv-loop μ-loop
+copy-requires c κs =
+    let p = c .before in
+    let t = p .before .before in
+    ap length (p .page-at .ensures) ∙ page-long _ _ (inside t) ∙ sym (part-long _ _ (room t))
 
 add-j : tie.Need-add-j Inv-loop μ-loop
 add-j c = search needs
@@ -85,7 +77,7 @@ loop-again c =
     let t = c .before .before .before .before .before .before in
     let s = start (t .before) in (
       omega (arith, t .loop-test .taken),
-      gathers _ _ _ (s .pre .0 .0) (s .pre .1) (t .before .loop .j) _ _ _ (t .loop-test .taken) (t .before .loop .inv .1) (c .before .before .copy-page .ensures),
+      gathers _ _ _ (s .pre .0 .0) (s .pre .1) (t .before .loop .j) _ _ _ (t .loop-test .taken) (t .before .loop .inv .1) (c .before .before .copy .ensures ∙ c .before .before .before .before .page-at .ensures),
     )
 
 same-length : tie.Need-same-length Inv-loop μ-loop
@@ -103,19 +95,15 @@ fill-out-spec =
     Inv-loop
     μ-loop
     loop-holds
-    shared-slice-read-start
-    cast-start
+    shared-slice-read-page
+    cast-page
     mul-start
     add-end
-    mul-to
-    add-to-end
-    sub-copy-page
-    part-copy-page-start
-    part-copy-page-end
-    sub-copy-page-2
-    part-copy-page-start-2
-    part-copy-page-end-2
-    copy-page-requires
+    page-at-requires
+    sub-copy
+    part-copy-start
+    part-copy-end
+    copy-requires
     add-j
     loop-less
     loop-again

@@ -1,86 +1,136 @@
--- `planner::plan::plan_batch` meets its contract: the gate, then the pages. Assumes nothing.
-use mathlib.Core.Path.{_≡_, refl, sym, ap, _∙_}
-use mathlib.Core.Bool.{_||_}
-use mathlib.Core.Logic.{⊎-elim, inl, inr}
-use Prim.Native.Nat.{ℕ, _*_}
+-- `plan_batch`: the stages of the gate in turn, then the pages.
+use Prim.Native.Nat.{_*_}
+use Rattle.ledger.proofs.Gated.{front-whole, gate-front, gate-own, gate-pages, Through, through}
+use Rattle.ledger.specs.Gate.{pages, lentRow, frontRows, pagesRows, gateFault}
+use Rattle.ledger.specs.State.{State, stateOf, keys}
+use Rattle.planning.proofs.Opened.{own, plan-refused, plan-open}
+use Rattle.planning.specs.Plan.{short}
+use Rattle.refusals.proofs.Rows.{row-there, one-clear}
+use Rattle.refusals.specs.Fault.{Row, clear, first, finding}
 use borrow.Author.Needs.{needs}
-use borrow.Author.Tests.{lt-ltb, le-ltb}
+use borrow.Author.Tests.{lt-ltb, le-ltb, ltb-false}
 use denote.Ref.{now}
 use lib.Dec.{ltb}
 use lib.ListN.{length}
-use Rattle.refusals.specs.Outcome.{gives}
-use Rattle.ledger.specs.State.{State, stateOf}
-use Rattle.ledger.specs.Gate.{pages, gated}
-use Rattle.planner.proofs.Answered.{or-joined, asked, plan-asked, plan-refused, plan-ready, plan-level, plan-differ, plan-long, plan-taken}
+use mathlib.Core.Bool.{true, _||_}
+use mathlib.Core.List.{List, []}
+use mathlib.Core.Logic.{⊎-elim}
+use mathlib.Core.Path.{_≡_, refl, sym, ap, _∙_}
+use native.Mathlib.Nat.{mul-comm}
+use native.Mathlib.Omega.{arith}
 use Rattle.planner.proofs.plan.plan_batch.Statement.{statement}
 use Rattle.planner.proofs.plan.plan_batch.Tie as tie
 
--- from the gate's answer: the beginning, and the state there
-abbrev start : tie.After-gate → tie.Start
-start g = g .before .before .before .before .before .before .before .before .before
+-- from the answer of the front: the beginning, and the state and the rows of plan's own there
+abbrev start : tie.After-front-fault → tie.Start
+start f = f .before .before .before .before .before .before .before
 
 abbrev entered : tie.Start → State
 entered s = stateOf (now (s .args .blocks)) (now (s .args .places)) (now (s .args .values))
 
-abbrev count : tie.Start → ℕ
-count s = pages (now (s .args .batch))
+abbrev mine : tie.Start → List Row
+mine s = own (now (s .args .batch)) (entered s) (s .args .n) (now (s .args .verdicts)) (now (s .args .order)) (now (s .args .out))
 
--- what 14 asks
-shortness :
-    (g : tie.After-gate) → let s = start g in
-    g .before .if2 .short ≡ ((ltb (length (now (s .args .verdicts))) (count s) || ltb (length (now (s .args .order))) (count s)) || ltb (length (now (s .args .out))) (count s * 512))
-shortness g =
-    let s = start g in
-    let v = length (now (s .args .verdicts)) in
-    let o = length (now (s .args .order)) in
-    let first : g .before .before .if1 .if2 ≡ (ltb v (count s) || ltb o (count s)) =
-    or-joined (ltb v (count s)) (ltb o (count s)) _ (⊎-elim (λ w. inl (lt-ltb v (count s) (w .0 .taken), w .1)) (λ w. inr (le-ltb v (count s) (w .0 .left), w .1)) (g .before .before .if1 .came)) in
-    or-joined (ltb v (count s) || ltb o (count s)) _ _ (⊎-elim (λ w. inl (sym first ∙ w .0 .taken, w .1 ∙ first)) (λ w. inr (sym first ∙ w .0 .left, w .1)) (g .before .if2 .came))
+-- the front is clear
+front : (c : tie.After-enum-told) → let s = start (c .before .before) in first (frontRows (now (s .args .batch)) (entered s) (s .args .n)) ≡ clear
+front c = sym (c .before .before .front-fault .ensures) ∙ ap finding (c .enum-told .given .1)
 
-answered :
-    (g : tie.After-gate) → let s = start g in
-    gated (g .gate .result) ≡ asked (now (s .args .batch)) (entered s) (s .args .n) (now (s .args .verdicts)) (now (s .args .order)) (now (s .args .out))
-answered g = let s = start g in plan-asked (now (s .args .batch)) (entered s) (s .args .n) (now (s .args .verdicts)) (now (s .args .order)) (now (s .args .out)) _ _ _ refl (shortness g) (g .gate .ensures)
+abbrev begun : tie.Else3 → tie.Start
+begun c = start (c .before .before .before .before .before)
 
--- the gate is open for that many pages
-is-open :
-    (c : tie.After-pages) → let s = start (c .before .before) in
-    gives (c .pages .given .0 .0) ≡ asked (now (s .args .batch)) (entered s) (s .args .n) (now (s .args .verdicts)) (now (s .args .order)) (now (s .args .out))
-is-open c = ap gated (sym (c .pages .given .1)) ∙ answered (c .before .before)
+-- the lists are long enough
+long : (c : tie.Else3) → first (mine (begun c)) ≡ clear
+long c =
+    let s = begun c in
+    let m = pages (now (s .args .batch)) in
+    one-clear 14 0 _
+    (rw (le-ltb (length (now (s .args .verdicts))) m (c .before .before .if1 .left), c .before .if2 .left)
+    (ap (ltb (length (now (s .args .out)))) (mul-comm 512 m) ∙ c .if3 .left))
 
-mul-short : tie.Need-mul-short
-mul-short c = search needs
+-- so the table is that of the pages
+rest : (c : tie.Else3) → let s = begun c in gateFault (mine s) (now (s .args .batch)) (entered s) (s .args .n) ≡ first (pagesRows (now (s .args .batch)) (keys (entered s)))
+rest c = let s = begun c in gate-pages (mine s) (now (s .args .batch)) (entered s) (s .args .n) (front (c .before .before .before)) (long c)
 
-gate-requires : tie.Need-gate-requires
-gate-requires c κs = search needs
+abbrev asked : tie.After-enum-told2 → tie.Else3
+asked c = c .before .before .before .before .before
 
-enum-known-refusal : tie.Need-enum-known-refusal
-enum-known-refusal c = search needs
+-- the pages are clear
+sound : (c : tie.After-enum-told2) → let s = begun (asked c) in first (pagesRows (now (s .args .batch)) (keys (entered s))) ≡ clear
+sound c = sym (c .before .before .pages-fault .ensures) ∙ ap finding (c .enum-told2 .given .1)
 
-enum-known-pages : tie.Need-enum-known-pages
-enum-known-pages c = search needs
+gated : (c : tie.After-enum-told2) → let s = begun (asked c) in Through (now (s .args .batch)) (entered s) (s .args .n)
+gated c = through _ _ _ (front (asked c .before .before .before)) (sound c)
 
-plan-pages-requires : tie.Need-plan-pages-requires
-plan-pages-requires c κs =
-    let p = c .before .before .before .before in
-    let s = start (p .before .before) in
-    let o = is-open p in (
-      plan-ready (now (s .args .batch)) (entered s) (s .args .n) (now (s .args .verdicts)) (now (s .args .order)) (now (s .args .out)) _ o,
-      (
-        plan-level (now (s .args .batch)) (entered s) (s .args .n) (now (s .args .verdicts)) (now (s .args .order)) (now (s .args .out)) _ o,
-        (
-          plan-differ (now (s .args .batch)) (entered s) (s .args .n) (now (s .args .verdicts)) (now (s .args .order)) (now (s .args .out)) _ o,
-          plan-long (now (s .args .batch)) (entered s) (s .args .n) (now (s .args .verdicts)) (now (s .args .order)) (now (s .args .out)) _ o,
-        ),
-      ),
-    )
+front-fault-requires : tie.Need-front-fault-requires
+front-fault-requires c κs = search needs
+
+enum-known-found : tie.Need-enum-known-found
+enum-known-found c = search needs
 
 returns : tie.Need-returns
 returns c =
-    let r = c .before in
-    let g = r .before .before in
-    let s = start g in
-    plan-refused (now (s .args .batch)) (entered s) (s .args .n) (now (s .args .verdicts)) (now (s .args .order)) (now (s .args .out)) _ _ (ap gated (sym (r .refusal .given .1)) ∙ answered g)
+    let f = c .before .before .before in
+    let s = start f in
+    plan-refused (now (s .args .batch)) (entered s) (s .args .n) (now (s .args .verdicts)) (now (s .args .order)) (now (s .args .out)) refl
+    (gate-front (mine s) (now (s .args .batch)) (entered s) (s .args .n) (sym (f .front-fault .ensures) ∙ ap finding (c .before .found .given .1)))
+
+enum-told : tie.Need-enum-told
+enum-told c = search needs
+
+mul-if3 : tie.Need-mul-if3
+mul-if3 c = search needs
+
+refused-requires : tie.Need-refused-requires
+refused-requires c κs = search needs
+
+returns-2 : tie.Need-returns-2
+returns-2 c =
+    let e = c .before .before in
+    let s = start (e .before .before) in
+    let v = length (now (s .args .verdicts)) in
+    let o = length (now (s .args .order)) in
+    let m = pages (now (s .args .batch)) in
+    let wrong : short (now (s .args .batch)) (now (s .args .verdicts)) (now (s .args .order)) (now (s .args .out)) ≡ true =
+    ⊎-elim
+    (λ w. rw (lt-ltb v m (w .taken)))
+    (⊎-elim
+    (λ w. rw (le-ltb v m (w .0 .left), w .1 .taken))
+    (λ w. rw (le-ltb v m (w .0 .left), w .1 .left) (ap (ltb (length (now (s .args .out)))) (mul-comm 512 m) ∙ w .2 .taken)))
+    (c .before .if1 .came) in
+    plan-refused (now (s .args .batch)) (entered s) (s .args .n) (now (s .args .verdicts)) (now (s .args .order)) (now (s .args .out)) (c .refused .ensures)
+    (gate-own (mine s) (now (s .args .batch)) (entered s) (s .args .n) (front e) (row-there (lentRow _) [] wrong))
+
+tickets-requires : tie.Need-tickets-requires
+tickets-requires c κs =
+    let s = begun c in
+    omega (arith, front-whole (now (s .args .batch)) (entered s) (s .args .n) (front (c .before .before .before)))
+
+pages-fault-requires : tie.Need-pages-fault-requires
+pages-fault-requires c κs =
+    let e = c .before .before in
+    let s = begun e in
+    (omega (arith, front-whole (now (s .args .batch)) (entered s) (s .args .n) (front (e .before .before .before))), c .before .tickets .ensures)
+
+enum-known-found-2 : tie.Need-enum-known-found-2
+enum-known-found-2 c = search needs
+
+returns-3 : tie.Need-returns-3
+returns-3 c =
+    let f = c .before .before .before in
+    let e = f .before .before .before in
+    let s = begun e in
+    plan-refused (now (s .args .batch)) (entered s) (s .args .n) (now (s .args .verdicts)) (now (s .args .order)) (now (s .args .out)) refl
+    (rest e ∙ sym (f .pages-fault .ensures) ∙ ap finding (c .before .found2 .given .1))
+
+enum-told-2 : tie.Need-enum-told-2
+enum-told-2 c = search needs
+
+plan-pages-requires : tie.Need-plan-pages-requires
+plan-pages-requires c κs =
+    let t = c .before .before .before .before in
+    let e = asked t in
+    let o = gated t in
+    (o .ready, (o .level .places, (o .differ, (t .before .before .before .before .tickets .ensures, (e .before .before .if1 .left, ltb-false _ _ (e .before .if2 .left), ltb-false _ _ (e .if3 .left))))))
 
 same-length : tie.Need-same-length
 same-length c = search needs
@@ -91,24 +141,33 @@ same-length-2 c = search needs
 same-length-3 : tie.Need-same-length-3
 same-length-3 c = search needs
 
-returns-2 : tie.Need-returns-2
-returns-2 c =
+returns-4 : tie.Need-returns-4
+returns-4 c =
     let w = c .before .before .before .before .before .before in
-    let p = w .before .before .before .before .before in
-    let s = start (p .before .before) in
-    w .plan-pages .ensures (now (s .args .values)) ∙ plan-taken (now (s .args .batch)) (entered s) (s .args .n) (now (s .args .verdicts)) (now (s .args .order)) (now (s .args .out)) _ (is-open p)
+    let t = w .before .before .before .before .before in
+    let e = asked t in
+    let s = begun e in
+    w .plan-pages .ensures
+    ∙ plan-open (now (s .args .batch)) (entered s) (s .args .n) (now (s .args .verdicts)) (now (s .args .order)) (now (s .args .out)) (rest e ∙ sound t)
 
 pub plan-batch-spec : {M : Type 1} → statement M
 plan-batch-spec =
     tie.close
     (tie.spec
-    mul-short
-    gate-requires
-    enum-known-refusal
-    enum-known-pages
-    plan-pages-requires
+    front-fault-requires
+    enum-known-found
     returns
+    enum-told
+    mul-if3
+    refused-requires
+    returns-2
+    tickets-requires
+    pages-fault-requires
+    enum-known-found-2
+    returns-3
+    enum-told-2
+    plan-pages-requires
     same-length
     same-length-2
     same-length-3
-    returns-2)
+    returns-4)

@@ -5,7 +5,7 @@ use borrow.Author.Needs.{needs}
 use denote.Ref.{now}
 use lib.ListN.{length, getD}
 use Rattle.sets.specs.Set.{member, members}
-use Rattle.ledger.specs.State.{stateOf}
+use Rattle.ledger.specs.State.{versionsIn}
 use Rattle.ledger.specs.Gate.{txAt}
 use Rattle.planner.specs.Ranks.{demands, nth, Sound}
 use Rattle.planner.proofs.Joined.{one-ticket, Lined, lined, kept-acyclic, kept-few, filled-low}
@@ -18,7 +18,7 @@ abbrev start : tie.After-current → tie.Start
 start c = c .before .before .before .before .before .before .before
 
 abbrev found : tie.After-by-ticket → tie.After-current
-found b = b .before .before .before .before
+found b = b .before .before
 
 abbrev ranked : tie.After-admitted → tie.After-by-ticket
 ranked a = a .before .before .before .before
@@ -35,8 +35,8 @@ line :
     Lined (λ i. txAt (now (start (found b) .args .batch)) i .ticket) (member (found b .current .result)) (start (found b) .args .m) (b .by-ticket .last .1 .1 .1 .0) (b .by-ticket .result)
 line b =
     let s = start (found b) in
-    lined (λ i. txAt (now (s .args .batch)) i .ticket) (nth (b .before .before .before .tickets .result)) (member (found b .current .result)) (s .args .m) _ _
-    (b .before .before .before .tickets .ensures) (s .pre .1 .1 .0) (b .by-ticket .ensures .0) (b .by-ticket .ensures .1)
+    lined (λ i. txAt (now (s .args .batch)) i .ticket) (nth (now (s .args .tickets))) (member (found b .current .result)) (s .args .m) _ _
+    (s .pre .1 .1 .1 .0 .each) (s .pre .1 .1 .0) (b .by-ticket .ensures .0) (b .by-ticket .ensures .1)
 
 small : (a : tie.After-admitted) → a .admitted .result < 2 ^ 64
 small a = search needs
@@ -53,14 +53,10 @@ low f =
 current-requires : tie.Need-current-requires
 current-requires c κs = let s = c .before .before .before .before .before .before in (s .pre .0, s .pre .1 .0)
 
-tickets-requires : tie.Need-tickets-requires
-tickets-requires c κs = sound c
-
 by-ticket-requires : tie.Need-by-ticket-requires
 by-ticket-requires c κs =
-    let t = c .before .before in
-    let s = start (t .before) in
-    (s .pre .0 .few, one-ticket (λ i. txAt (now (s .args .batch)) i .ticket) _ _ _ (t .tickets .ensures) (s .pre .1 .1 .0))
+    let s = start (c .before) in
+    (s .pre .0 .few, one-ticket (λ i. txAt (now (s .args .batch)) i .ticket) _ _ _ (s .pre .1 .1 .1 .0 .each) (s .pre .1 .1 .0))
 
 blockers-requires : tie.Need-blockers-requires
 blockers-requires c κs = let b = c .before in lined-ranked _ _ _ _ _ _ (line b) (sound (found b))
@@ -71,7 +67,7 @@ admitted-requires c κs = let b = c .before .before .before in omega (arith, lin
 fill-order-requires : tie.Need-fill-order-requires
 fill-order-requires c κs =
     let a = c .before .before .before in (
-      omega (arith, room a, start (found (ranked a)) .pre .1 .1 .1),
+      omega (arith, room a, start (found (ranked a)) .pre .1 .1 .1 .1),
       kept-acyclic (demands (a .before .before .blockers .result)) _ _ (small a) (a .admitted .ensures),
     )
 
@@ -79,21 +75,21 @@ placed-requires : tie.Need-placed-requires
 placed-requires c κs =
     let f = c .before .before .before .before in
     let s = start (found (ranked (judged f))) in
-    (omega (arith, room (judged f), f .fill-order .ensures .0, f .fill-order .kept .1 .1 .1 .0, s .pre .1 .1 .1), λ j h. let within : j < f .fill-order .result = omega arith in omega (arith, low f j within, s .pre .0 .few))
+    (omega (arith, room (judged f), f .fill-order .ensures .0, f .fill-order .kept .1 .1 .1 .0, s .pre .1 .1 .1 .1), λ j h. let within : j < f .fill-order .result = omega arith in omega (arith, low f j within, s .pre .0 .few))
 
 fill-verdicts-requires : tie.Need-fill-verdicts-requires
 fill-verdicts-requires c κs =
     let f = c .before .before .before .before .before in
     let s = start (found (ranked (judged f))) in
-    (s .pre .1 .1 .1 .0, s .pre .0 .few)
+    (s .pre .1 .1 .1 .1 .0, s .pre .0 .few)
 
 fill-out-requires : tie.Need-fill-out-requires
 fill-out-requires c κs =
     let f = c .before .before .before .before .before .before .before .before .before .before in
     let s = start (found (ranked (judged f))) in (
       (
-        omega (arith, room (judged f), f .fill-order .ensures .0, f .fill-order .kept .1 .1 .1 .0, s .pre .1 .1 .1),
-        omega (arith, room (judged f), f .fill-order .ensures .0, s .pre .1 .1 .1),
+        omega (arith, room (judged f), f .fill-order .ensures .0, f .fill-order .kept .1 .1 .1 .0, s .pre .1 .1 .1 .1),
+        omega (arith, room (judged f), f .fill-order .ensures .0, s .pre .1 .1 .1 .1),
       ),
       λ j h. let within : j < f .fill-order .result = omega arith in omega (arith, low f j within, s .pre .0 .whole),
     )
@@ -115,7 +111,7 @@ returns c =
     let a = judged f in
     let b = ranked a in
     let s = start (found b) in
-    λ v. plan-made (now (s .args .batch)) (stateOf (now (s .args .blocks)) (now (s .args .places)) v) _ _ (s .pre .0 .whole) (found b .current .ensures v)
+    plan-made (now (s .args .batch)) (versionsIn (now (s .args .blocks)) (now (s .args .places))) _ _ (s .pre .0 .whole) (found b .current .ensures)
     _ (a .before .before .blockers .result) _ _ _ _ _ _ _ _ _ _ (line b) (a .before .before .blockers .ensures) (small a) (a .admitted .ensures) (f .fill-order .ensures .0) (f .fill-order .ensures .1)
     (p .before .placed .ensures) (p .fill-verdicts .ensures) (o .fill-out .ensures)
 
@@ -124,7 +120,6 @@ plan-pages-spec =
     tie.close
     (tie.spec
     current-requires
-    tickets-requires
     by-ticket-requires
     blockers-requires
     admitted-requires

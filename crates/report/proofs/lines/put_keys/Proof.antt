@@ -3,8 +3,6 @@ use Prim.Native.Nat.{ℕ, _+_, _*_, _-_, _≤_}
 use mathlib.Core.Path.{_≡_, refl, ap}
 use native.Mathlib.Omega.{arith}
 use denote.Ref.{now}
-use mir.Syntax.{w64}
-use mir.Facts.{toZ-ofZ}
 use lib.ListN.{length}
 use borrow.Author.Needs.{needs}
 use Rattle.lists.specs.Tables.{flat}
@@ -27,14 +25,8 @@ loop-holds : tie.Need-loop-holds Inv-loop μ-loop
 unfolding flat
 loop-holds c = (omega arith, refl, omega arith, none _ _)
 
-version-at-requires : tie.Need-version-at-requires Inv-loop μ-loop
-version-at-requires c κs = search needs
-
-mul-put-key : tie.Need-mul-put-key Inv-loop μ-loop
-mul-put-key c = search needs
-
-shared-slice-copy-out-put-key : tie.Need-shared-slice-copy-out-put-key Inv-loop μ-loop
-shared-slice-copy-out-put-key c = search needs
+entry-at-requires : tie.Need-entry-at-requires Inv-loop μ-loop
+entry-at-requires c κs = search needs
 
 put-key-requires : tie.Need-put-key-requires Inv-loop μ-loop
 put-key-requires c κs = search needs
@@ -48,14 +40,13 @@ loop-less c = search needs
 loop-again : tie.Need-loop-again Inv-loop μ-loop
 loop-again c =
     let p = c .before .before in
-    let v = p .before .before .before in
+    let v = p .before .before in
     let l = v .before .before in
-    let a = l .before .before .before .before .args in
-    let z = toZ-ofZ {w = w64} (record { sfits = p .before .put-key-arg2 .given }) in (
+    let a = l .before .before .before .before .args in (
       omega (arith, v .before .loop-test .taken),
       omega (arith, p .put-key .kept .0, l .loop .inv .1),
       omega (arith, p .put-key .ensures .0, l .loop .inv .2),
-      more-lines _ _ _ _ _ _ _ _ _ (key-line (stateOf (now (a .blocks)) (now (a .places)) (now (a .values))) (l .loop .key) _ _ (v .version-at .ensures) z) (l .loop .inv .3) (p .put-key .ensures .1),
+      more-lines _ _ _ _ _ _ _ _ _ (key-line (stateOf (now (a .blocks)) (now (a .places)) (now (a .values))) (l .loop .key) _ (v .entry-at .ensures)) (l .loop .inv .3) (p .put-key .ensures .1),
     )
 
 same-length : tie.Need-same-length Inv-loop μ-loop
@@ -75,9 +66,7 @@ put-keys-spec =
     Inv-loop
     μ-loop
     loop-holds
-    version-at-requires
-    mul-put-key
-    shared-slice-copy-out-put-key
+    entry-at-requires
     put-key-requires
     add-key
     loop-less

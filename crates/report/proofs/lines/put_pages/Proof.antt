@@ -9,8 +9,7 @@ use borrow.Author.Needs.{needs}
 use Rattle.lists.specs.Tables.{flat}
 use Rattle.ledger.specs.Page.{pageTx}
 use Rattle.ledger.specs.Gate.{txAt}
-use Rattle.ledger.proofs.Gated.{lent}
-use Rattle.ledger.proofs.Placed.{part-long}
+use Rattle.ledger.proofs.Gated.{page-long}
 use Rattle.report.specs.Put.{Put}
 use Rattle.report.specs.Listing.{pageLine, placed}
 use Rattle.report.proofs.Puts.{none, put-as, more-lines}
@@ -32,26 +31,14 @@ loop-holds : tie.Need-loop-holds Inv-loop μ-loop
 unfolding flat
 loop-holds c = (omega arith, refl, omega arith, none _ _)
 
-mul-start : tie.Need-mul-start Inv-loop μ-loop
-mul-start c = search needs
-
-add-end : tie.Need-add-end Inv-loop μ-loop
-add-end c = search needs
-
-sub-ticket : tie.Need-sub-ticket Inv-loop μ-loop
-sub-ticket c = search needs
-
-part-ticket-start : tie.Need-part-ticket-start Inv-loop μ-loop
-part-ticket-start c = search needs
-
-part-ticket-end : tie.Need-part-ticket-end Inv-loop μ-loop
-part-ticket-end c = search needs
+page-at-requires : tie.Need-page-at-requires Inv-loop μ-loop
+page-at-requires c κs = search needs
 
 ticket-requires : tie.Need-ticket-requires Inv-loop μ-loop
 ticket-requires c κs =
     let l = c .before .before in
     let a = l .before .before .before .before .before .args in
-    omega (arith, part-long (now (a .batch)) (l .loop .i * 512) (omega (arith, c .before .loop-test .taken)))
+    rw (c .page-at .ensures) (omega (arith, page-long (now (a .batch)) (l .loop .i) (omega (arith, c .before .loop-test .taken))))
 
 shared-slice-read-put-page : tie.Need-shared-slice-read-put-page Inv-loop μ-loop
 shared-slice-read-put-page c = search needs
@@ -73,7 +60,7 @@ loop-again c =
     let l = n .before in
     let a = l .before .before .before .before .before .args in
     let v = getD (now (a .verdicts)) (l .loop .i) 0 in
-    let e = t .ticket .ensures ∙ ap (λ (x : List ℕ). pageTx x .ticket) (lent (now (a .batch)) (l .loop .i)) in (
+    let e = t .ticket .ensures ∙ ap (λ (x : List ℕ). pageTx x .ticket) (t .before .page-at .ensures) in (
       omega (arith, n .loop-test .taken),
       omega (arith, p .put-page .kept .0, l .loop .inv .1),
       omega (arith, p .put-page .ensures .0, l .loop .inv .2),
@@ -97,11 +84,7 @@ put-pages-spec =
     Inv-loop
     μ-loop
     loop-holds
-    mul-start
-    add-end
-    sub-ticket
-    part-ticket-start
-    part-ticket-end
+    page-at-requires
     ticket-requires
     shared-slice-read-put-page
     put-page-requires

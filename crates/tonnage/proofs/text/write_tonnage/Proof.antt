@@ -82,8 +82,13 @@ add-point c = omega (arith, start-is (c .before .before), sign-length (figure (c
 add-length : tie.Need-add-length
 add-length c = omega (arith, start-is (c .before .before), sign-length (figure (c .before .before .before)), c .before .width .ensures .1)
 
+refused-requires : tie.Need-refused-requires
+refused-requires c κs = search needs
+
 returns : tie.Need-returns
-returns c = too-small _ _ _ (length-is (c .before .before)) (c .if2 .taken)
+returns c =
+    let d = c .before .before .before in
+    ap (λ o. record { answer = o; text = buffer (d .before .before) }) (c .refused .ensures) ∙ too-small _ _ _ (length-is d) (c .before .if2 .taken)
 
 slice-write-text : tie.Need-slice-write-text
 slice-write-text c = search needs
@@ -116,6 +121,7 @@ write-tonnage-spec =
     width-requires
     add-point
     add-length
+    refused-requires
     returns
     slice-write-text
     put-requires

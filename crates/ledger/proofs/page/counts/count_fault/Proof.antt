@@ -24,14 +24,8 @@ returns-2 c =
     let a = c .before .before .before .args in
     c .found2 .ensures ∙ rw (le-ltb 32 (a .r) (omega arith), lt-ltb 32 (a .w) (omega arith))
 
-mul-if3 : tie.Need-mul-if3
-mul-if3 c = search needs
-
-mul-if3-2 : tie.Need-mul-if3-2
-mul-if3-2 c = search needs
-
-add-if3 : tie.Need-add-if3
-add-if3 c = search needs
+spare-at-requires : tie.Need-spare-at-requires
+spare-at-requires c κs = search needs
 
 found-requires-3 : tie.Need-found-requires-3
 found-requires-3 c κs = search needs
@@ -39,13 +33,13 @@ found-requires-3 c κs = search needs
 returns-3 : tie.Need-returns-3
 unfolding countRows first
 returns-3 c =
-    let a = c .before .before .before .before .args in
+    let a = c .before .before .before .before .before .args in
     c .found3 .ensures ∙ rw (le-ltb 32 (a .r) (omega arith), le-ltb 32 (a .w) (omega arith), lt-ltb 500 (size (a .r) (a .w)) (omega arith))
 
 returns-4 : tie.Need-returns-4
 unfolding countRows first
 returns-4 c =
-    let a = c .before .before .before .args in
+    let a = c .before .before .before .before .args in
     rw (le-ltb 32 (a .r) (omega arith), le-ltb 32 (a .w) (omega arith), le-ltb 500 (size (a .r) (a .w)) (omega arith))
 
 pub count-fault-spec : {M : Type 1} → statement M
@@ -56,9 +50,7 @@ count-fault-spec =
     returns
     found-requires-2
     returns-2
-    mul-if3
-    mul-if3-2
-    add-if3
+    spare-at-requires
     found-requires-3
     returns-3
     returns-4)

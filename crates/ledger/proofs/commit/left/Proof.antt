@@ -1,0 +1,27 @@
+-- `left`: a put and a delete.
+use borrow.Author.Needs.{needs}
+use borrow.Author.Tests.{eq-eqb, ne-eqb}
+use mathlib.Core.Path.{ap₂}
+use lib.IntN.{ℤ}
+use Rattle.ledger.specs.declared.Version.{Version}
+use mir.Facts.{toZ-ofZ}
+use mir.Syntax.{w64}
+use Rattle.ledger.proofs.commit.left.Statement.{statement}
+use Rattle.ledger.proofs.commit.left.Tie as tie
+
+at-requires : tie.Need-at-requires
+at-requires c κs = search needs
+
+returns : tie.Need-returns
+returns c =
+    let a = c .before .before .before .before .args in
+    rw (eq-eqb (a .x .kind) 0 (c .before .before .if1 .taken))
+    (ap₂ (λ (v : Version) (z : ℤ). record { version = v; value = z })
+    (c .before .at .ensures)
+    (toZ-ofZ {w = w64} {z = a .x .value} (record { sfits = c .struct-told .given .1 .1 .0 .1 })))
+
+returns-2 : tie.Need-returns-2
+returns-2 c = rw (ne-eqb _ 0 (c .if1 .left))
+
+pub left-spec : {M : Type 1} → statement M
+left-spec = tie.close (tie.spec at-requires returns returns-2)

@@ -1,0 +1,44 @@
+// The rules for one entry of a transaction.
+use crate::Version;
+use crate::Write;
+use crate::layout;
+ghost use mathlib.Core.Path.{_≡_};
+ghost use Rattle.ledger.specs.Tx.{wrongKey, wrongVersion, wrongKind};
+
+// The kinds of a write.
+pub const PUT: u16 = 0;
+
+pub const DELETE: u16 = 1;
+
+// A key that is below the least that may stand here, or above 1023.
+pub fn key_wrong(floor: u32, key: u16) -> bool
+    ensures { λ r. ⌜ r ≡ wrongKey floor key ⌝ }
+{
+    if (key as u32) < floor {
+        return true;
+    }
+    key > layout::LAST_KEY
+}
+
+// A version that is neither absent nor at a place of 0 to 63.
+pub fn version_wrong(v: Version) -> bool
+    ensures { λ r. ⌜ r ≡ wrongVersion v ⌝ }
+{
+    if v.ordinary() {
+        return false;
+    }
+    !v.same(Version::ABSENT)
+}
+
+// A kind that is neither put nor delete, or a delete with a value.
+pub fn kind_wrong(x: Write) -> bool
+    ensures { λ r. ⌜ r ≡ wrongKind x ⌝ }
+{
+    if x.kind == PUT {
+        return false;
+    }
+    if x.kind != DELETE {
+        return true;
+    }
+    x.value != 0
+}

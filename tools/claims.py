@@ -1,5 +1,6 @@
 #!/usr/bin/env python3
-"""Checks docs/CLAIMS.md against the files that it cites. Run it at the root of the repository: python3 tools/claims.py
+"""Checks docs/CLAIMS.md, CERTAIN.md and GLOSSARY.md against the files that they cite. Run it at the root of the repository:
+python3 tools/claims.py
 
 Every file in backquotes is there, below crates/ or at the root. Every name in backquotes is declared in a file that its
 row or paragraph cites, or else in one that its section cites; a folder stands for the files in it, and a name is also
@@ -10,7 +11,7 @@ import re
 import sys
 from pathlib import Path
 
-CLAIMS = Path("docs/CLAIMS.md")
+DOCS = [Path("docs/CLAIMS.md"), Path("docs/CERTAIN.md"), Path("docs/GLOSSARY.md")]
 WORDS = {"requires", "ensures"}  # of the language
 SUFFIXES = (".antt", ".rt", ".h", ".py", ".md")
 ANTT = re.compile(r"^\s*(?:(?:abbrev|unfoldable|pub|record|data|infix[lr]?\s+\d+)\s+)*([^\s:(){}.]+)\s*(?=[:({]|$)", re.M)
@@ -63,23 +64,32 @@ def sections(lines):
     return found
 
 
-def main():
+def checked(doc):
+    """The faults of a document, and how many names it cites."""
     faults, count = [], 0
-    for units in sections(CLAIMS.read_text(encoding="utf-8").splitlines()):
+    for units in sections(doc.read_text(encoding="utf-8").splitlines()):
         cited = [(number, *parts(text)) for number, text in units]
         section = [path for _, files, _ in cited for path in map(place, files) if path]
         for number, files, names in cited:
             for token in files:
                 if place(token) is None:
-                    faults.append(f"{CLAIMS}:{number}: there is no {token}")
+                    faults.append(f"{doc}:{number}: there is no {token}")
             row = [path for path in map(place, files) if path]
             for name in names:
                 count += 1
                 if not any(name in declared(path) for path in row + section):
                     where = ", ".join(map(str, row)) or "any file that the section cites"
-                    faults.append(f"{CLAIMS}:{number}: {name} is not declared in {where}")
-    print(*faults, sep="\n") if faults else print(f"{CLAIMS}: {count} names stand where they are cited")
-    return 1 if faults or count == 0 else 0
+                    faults.append(f"{doc}:{number}: {name} is not declared in {where}")
+    return faults, count
+
+
+def main():
+    right = True
+    for doc in DOCS:
+        faults, count = checked(doc)
+        print(*faults, sep="\n") if faults else print(f"{doc}: {count} names stand where they are cited")
+        right = right and not faults and count > 0
+    return 0 if right else 1
 
 
 if __name__ == "__main__":

@@ -1,39 +1,34 @@
 -- What the services for C return: the halves of each word give number and place back, or 0 and the count. Assumes nothing.
-use Prim.Native.Nat.{ℕ, zero, suc, _+_, _/_, _≤_, _<_}
+use Prim.Native.Nat.{ℕ, _/_, _≤_, _<_}
 use native.Mathlib.Omega.{arith}
-use mathlib.Core.Bool.{Bool, true, false}
-use mathlib.Core.List.{List, [], _∷_, _++_}
-use mathlib.Core.Logic.{_⊎_, inl, inr, ⊎-elim}
+use mathlib.Core.Bool.{true}
+use mathlib.Core.List.{List}
+use mathlib.Core.Logic.{⊎-elim}
 use mathlib.Core.Path.{_≡_, sym, ap}
 use lib.ListN.{length}
 use lib.IntN.{ℤ}
-use lib.Dec.{T, eqb, ltb, ltb→lt}
-use borrow.Author.Tests.{lt-ltb}
-use Rattle.lists.specs.Members.{all}
-use Rattle.lists.proofs.Tests.{both, and-left, and-right, of-true}
+use lib.Dec.{eqb}
 use Rattle.lists.proofs.Membership.{those-shorter}
 use Rattle.lists.specs.Tables.{tab}
 use Rattle.lists.proofs.Tables.{length-tab}
 use Rattle.refusals.specs.Outcome.{Outcome, gives, refuses}
-use Rattle.refusals.specs.Fault.{Row, row, first, Given, here, later, rowsFrom, inTurn, eachRow, moved}
+use Rattle.refusals.specs.Fault.{first}
 use Rattle.refusals.proofs.Rows.{judged-gives}
 use Rattle.tonnage.specs.Text.{textOf}
 use Rattle.tonnage.specs.Services.{in64, readText, writeText}
 use Rattle.tonnage.specs.Services.{writeRows as textRows}
 use Rattle.tonnage.proofs.RoundTrip.{longest}
 use Rattle.ledger.specs.declared.Transaction.{Transaction}
-use Rattle.ledger.specs.Page.{pageAt, countRows, entryRows, headRows, wholeRows, pageRows}
-use Rattle.ledger.specs.Services.{Counts, readPage, writeRows, writeFault, writePage}
-use Rattle.ledger.specs.State.{State, keys, entry, wrongEntry, stateRows}
-use Rattle.ledger.specs.Gate.{pages, txAt, txs, again, beyond, rowsAt, frontRows, lentRow, pagesRows, gateRows}
+use Rattle.ledger.specs.Services.{Counts, readPage, writeFault, writePage}
+use Rattle.ledger.specs.State.{State}
+use Rattle.ledger.specs.Gate.{pages, txAt, txs}
 use Rattle.ledger.specs.Commit.{verdicts, passed, commitRows, commitBatch}
-use Rattle.ledger.proofs.Gated.{whole, sized, gate-open}
+use Rattle.ledger.proofs.Gated.{gate-open}
 use Rattle.ledger.proofs.Commits.{own, verdicts-length}
 use Rattle.planning.specs.Plan.{planBatch}
 use Rattle.planning.proofs.Few.{plan-room}
 use Rattle.node.specs.Word.{upper, word, high, low, Told}
 use Rattle.node.specs.Lent.{Arrays, pageLeft, textLeft, writtenLeft, putLeft, commitLeft, planLeft}
-use Rattle.claims.proofs.Refusals.{plan-refused, commit-refused, page-refused, write-refused}
 use Rattle.claims.proofs.Refusals.{plan-numbers, commit-numbers, page-numbers, write-numbers}
 use Rattle.claims.proofs.Texts.{refused-only, refused-unchanged}
 
@@ -53,73 +48,6 @@ module _ {A : Type 0} (count : A → ℕ) (o : Outcome A) (w : ℕ)
     counted = λ a e. let g = given a e in halves 0 (count a) w (omega (arith, g .0)) (g .1);
   }
 
--- ---- the places of a table
-
--- each row's place is below a bound
-abbrev under : ℕ → List Row → Bool
-under top rs = all (λ r. ltb (r .place) top) rs
-
-module _ (top : ℕ) where
-  under-append : (xs ys : List Row) → T (under top xs) → T (under top ys) → T (under top (xs ++ ys))
-  under-append [] ys a b = b
-  under-append (r ∷ rs) ys a b =
-      both (ltb (r .place) top) _ (and-left (ltb (r .place) top) _ a)
-      (under-append rs ys (and-right (ltb (r .place) top) _ a) b)
-
-  under-from :
-      (rows : ℕ → List Row) (i k : ℕ) → i + k ≤ top → ((j : ℕ) → j < top → T (under top (rows j))) →
-      T (under top (rowsFrom rows i k))
-  unfolding rowsFrom
-  under-from rows i zero h f = tt
-  under-from rows i (suc k) h f =
-      under-append (rows i) (rowsFrom rows (suc i) k) (f i (omega arith)) (under-from rows (suc i) k (omega arith) f)
-
-  under-at : (i : ℕ) → i < top → T (ltb i top)
-  under-at i h = of-true (ltb i top) (lt-ltb i top h)
-
-  under-moved : (i : ℕ) (rs : List Row) → i < top → T (under top (moved (λ _. i) rs))
-  unfolding moved
-  under-moved i [] h = tt
-  under-moved i (r ∷ rs) h = both (ltb i top) _ (under-at i h) (under-moved i rs h)
-
-  under-each : (n m : ℕ) (test : ℕ → Bool) → m ≤ top → T (under top (eachRow n m test))
-  under-each n m test h =
-      under-from (λ i. row n i (test i) ∷ []) 0 m (omega arith) (λ j l. both (ltb j top) true (under-at j l) tt)
-
-  given-under : {n p : ℕ} {rs : List Row} → Given n p rs → T (under top rs) → p < top
-  given-under (here {r = r} {rs = qs} e q c) a =
-      rw q at (ltb→lt (r .place) top (and-left (ltb (r .place) top) (under top qs) a))
-  given-under (later {r = r} {rs = qs} c g) a = given-under g (and-right (ltb (r .place) top) (under top qs) a)
-
--- the first row's place, or its case is not there
-parted : (n p : ℕ) (r : Row) (rs : List Row) → Given n p (r ∷ rs) → (r .place ≡ p) ⊎ ((r .case ≡ false) × Given n p rs)
-parted n p r rs (here e q c) = inl q
-parted n p r rs (later c g) = inr (c, g)
-
--- a place that plan or commit gives is a page of at most 64 or a key of at most 1024
-gate-place :
-    (b : Bool) (batch : List ℕ) (s : State) (n m p : ℕ) → Given m p (gateRows (lentRow b ∷ []) batch s n) → p < 1024
-unfolding gateRows frontRows stateRows pagesRows
-gate-place b batch s n m p g =
-    ⊎-elim (λ q. omega arith)
-    (λ c. ⊎-elim (λ q. omega arith)
-    (λ d. given-under 1024 (d .1) (rest (whole batch (c .0) .1) (sized s (d .0) .few)))
-    (parted m p _ _ (c .1)))
-    (parted m p _ _ g)
-  where
-    rest :
-        pages batch ≤ 64 → keys s ≤ 1024 →
-        T (under 1024 (eachRow 13 (keys s) (λ k. wrongEntry n (entry s k)) ++ (lentRow b ∷ pagesRows batch (keys s))))
-    rest few small =
-        under-append 1024 (eachRow 13 (keys s) (λ k. wrongEntry n (entry s k))) (lentRow b ∷ pagesRows batch (keys s))
-        (under-each 1024 13 (keys s) (λ k. wrongEntry n (entry s k)) small)
-        (under-append 1024 (inTurn (pages batch) (rowsAt batch)) _
-        (under-from 1024 (rowsAt batch) 0 (pages batch) (omega arith)
-        (λ j h. under-moved 1024 j (wholeRows (pageAt batch j)) h))
-        (under-append 1024 (eachRow 15 (pages batch) (again batch)) _
-        (under-each 1024 15 (pages batch) (again batch) (omega arith))
-        (under-each 1024 16 (pages batch) (λ i. beyond (keys s) (txAt batch i)) (omega arith))))
-
 -- ---- the six services: a count is as it is, and reading a page or a text and writing a page count 0
 
 module _ (batch : List ℕ) (s : State) (n : ℕ) (vs os out : List ℕ) where
@@ -128,8 +56,7 @@ module _ (batch : List ℕ) (s : State) (n : ℕ) (vs os out : List ℕ) where
       told (λ k. k) (planBatch batch s n vs os out .answer) _
       (λ m p e.
       let b = plan-numbers batch s n vs os out m p e in
-      let h = gate-place _ batch s n m p (plan-refused batch s n vs os out m p .0 e) in
-      (ap word e, omega (arith, b .0), omega (arith, b .1), omega arith))
+      (ap word e, omega (arith, b .0), omega (arith, b .1), omega (arith, b .2)))
       (λ k e. (ap word e, omega (arith, plan-room batch s n vs os out k e .0)))
 
 module _ (batch : List ℕ) (s : State) (n : ℕ) (vs : List ℕ) where
@@ -153,36 +80,29 @@ module _ (batch : List ℕ) (s : State) (n : ℕ) (vs : List ℕ) where
       told (λ k. k) (commitBatch batch s n vs .answer) _
       (λ m p e.
       let b = commit-numbers batch s n vs m p e in
-      let h = gate-place _ batch s n m p (commit-refused batch s n vs m p .0 e) in
-      (ap word e, omega (arith, b .0), omega (arith, b .1), omega arith))
+      (ap word e, omega (arith, b .0), omega (arith, b .1), omega (arith, b .2)))
       (λ k e. (ap word e, omega (arith, few-pass k e)))
 
 module _ (batch : List ℕ) (index : ℕ) (t : Transaction) where
-  write-place : (n p : ℕ) → writePage batch index t .answer ≡ refuses n p → p < 1
-  unfolding writeRows countRows entryRows
-  write-place n p e = given-under 1 (write-refused batch index t n p .0 e) tt
-
   pub write-page-word : Told (λ k. k) (writePage batch index t .answer) (putLeft (writePage batch index t) .word)
   unfolding writePage
   write-page-word =
       told (λ k. k) (writePage batch index t .answer) _
       (λ n p e.
       let b = write-numbers batch index t n p e in
-      (ap word e, omega (arith, b .0), omega (arith, b .1), omega (arith, write-place n p e)))
+      let some : 0 < n = ⊎-elim (λ k. omega (arith, k .0)) (λ k. omega arith) (b .0) in
+      let few : n ≤ 20 = ⊎-elim (λ k. omega (arith, k .1)) (λ k. omega arith) (b .0) in
+      (ap word e, some, few, omega (arith, b .1)))
       (λ k e. (ap word e, omega (arith, judged-gives (writeFault t index (length batch / 512)) k 0 (sym e) .1)))
 
 module _ (p : List ℕ) (a : Arrays) where
-  page-place : (n q : ℕ) → readPage p .answer ≡ refuses n q → q < 1
-  unfolding pageRows wholeRows headRows countRows entryRows
-  page-place n q e = given-under 1 (page-refused p n q .0 e) tt
-
   pub read-page-word : Told {A = Counts} (λ c. 0) (readPage p .answer) (pageLeft p a .word)
   unfolding pageLeft
   read-page-word =
       told (λ c. 0) (readPage p .answer) _
       (λ n q e.
       let b = page-numbers p n q e in
-      (rw e, omega (arith, b .0), omega (arith, b .1), omega (arith, page-place n q e)))
+      (rw e, omega (arith, b .0), omega (arith, b .1), omega (arith, b .2)))
       (λ c e. (rw e, omega arith))
 
 module _ (text : List ℕ) (z : ℤ) where

@@ -1,17 +1,18 @@
 -- Demand 1: a number is given, with its place, exactly when the table says so, and a refusal changes nothing. Assumes nothing.
 use Prim.Native.Nat.{ℕ, _/_, _≤_, _<_}
-use mathlib.Core.Bool.{Bool, true, _&&_}
-use mathlib.Core.List.{List, [], _∷_}
-use mathlib.Core.Logic.{_↔_}
+use native.Mathlib.Omega.{arith}
+use mathlib.Core.Bool.{Bool, _&&_, _||_}
+use mathlib.Core.List.{List, [], _∷_, _++_}
+use mathlib.Core.Logic.{_↔_, _⊎_, inl, inr, ⊎-elim}
 use mathlib.Core.Path.{_≡_}
 use lib.ListN.{length}
 use lib.IntN.{ℤ}
-use lib.Dec.{T, leb, leb→le}
+use lib.Dec.{T, eqb, leb, ltb, eqb→eq, leb→le, ltb→lt}
 use borrow.Author.Tests.{lt-ltb, le-ltb}
 use Rattle.refusals.specs.Outcome.{refuses}
-use Rattle.lists.proofs.Tests.{both, and-left, and-right}
-use Rattle.refusals.specs.Fault.{row, first, Given, inTurn, eachRow}
-use Rattle.refusals.proofs.Rows.{judged-given, refused-after, numbered, numbered-append, numbered-turn, numbered-moved, given-numbered}
+use Rattle.lists.proofs.Tests.{and-left, and-right, of-true, or-cases}
+use Rattle.refusals.specs.Fault.{first, Given, inTurn, eachRow}
+use Rattle.refusals.proofs.Rows.{judged-given, refused-after, allow, allow-append, allow-turn, allow-each, allow-moved, given-allowed, parted}
 use Rattle.tonnage.specs.Services.{readRows, readText, writeText}
 use Rattle.tonnage.specs.Services.{writeRows as textRows}
 use Rattle.ledger.specs.declared.Transaction.{Transaction}
@@ -20,6 +21,7 @@ use Rattle.ledger.specs.Services.{checkPage, readPage, writeRows, writeFault, w
 use Rattle.ledger.specs.State.{State, keys, entry, wrongEntry, stateRows}
 use Rattle.ledger.specs.Gate.{pages, txAt, again, beyond, rowsAt, frontRows, lentRow, pagesRows, gateRows}
 use Rattle.ledger.specs.Commit.{commitRows, commitBatch}
+use Rattle.ledger.proofs.Gated.{whole, sized}
 use Rattle.planning.specs.Plan.{planRows, planBatch}
 
 -- ---- the services on batches
@@ -84,43 +86,77 @@ pub text-refused : (buffer : List ℕ) (z : ℤ) (n q : ℕ) → (writeText buff
 unfolding writeText
 text-refused buffer z = judged-given (textRows buffer z) _
 
--- ---- which numbers are given: each service's own, and of a batch never 1
+-- ---- what is given: each service's own numbers, of a batch never 1; the place of a page by itself is 0, in a batch it is a page or a key
 
-abbrev within : ℕ → ℕ → ℕ → Bool
-within a b n = leb a n && leb n b
+abbrev onPage : ℕ → ℕ → ℕ → ℕ → Bool
+onPage a b n p = leb a n && leb n b && eqb p 0
 
-bounds : (a b n : ℕ) → T (within a b n) → (a ≤ n) × (n ≤ b)
-bounds a b n t = (leb→le a n (and-left (leb a n) (leb n b) t), leb→le n b (and-right (leb a n) (leb n b) t))
+on-page : (a b n p : ℕ) → T (onPage a b n p) → (a ≤ n) × (n ≤ b) × (p ≡ 0)
+on-page a b n p t =
+    let u = and-left (leb a n && leb n b) (eqb p 0) t in
+    (leb→le a n (and-left (leb a n) (leb n b) u), leb→le n b (and-right (leb a n) (leb n b) u), eqb→eq p 0 (and-right (leb a n && leb n b) (eqb p 0) t))
 
-whole-numbers : (p : List ℕ) → T (numbered (within 2 16) (wholeRows p))
+abbrev inBatch : ℕ → ℕ → Bool
+inBatch n p = leb 2 n && leb n 16 && ltb p 1024
+
+in-batch : (n p : ℕ) → T (inBatch n p) → (2 ≤ n) × (n ≤ 16) × (p < 1024)
+in-batch n p t =
+    let u = and-left (leb 2 n && leb n 16) (ltb p 1024) t in
+    (leb→le 2 n (and-left (leb 2 n) (leb n 16) u), leb→le n 16 (and-right (leb 2 n) (leb n 16) u), ltb→lt p 1024 (and-right (leb 2 n && leb n 16) (ltb p 1024) t))
+
+whole-numbers : (p : List ℕ) (j : ℕ) → j < 1024 → T (allow (λ n _. inBatch n j) (wholeRows p))
 unfolding wholeRows headRows countRows entryRows
-whole-numbers p = tt
+whole-numbers p j h = rw (lt-ltb j 1024 h) tt
 
-each-numbers : (number m : ℕ) (test : ℕ → Bool) → T (within 2 16 number) → T (numbered (within 2 16) (eachRow number m test))
-each-numbers number m test h = numbered-turn (within 2 16) m (λ j. row number j (test j) ∷ []) (λ j. both (within 2 16 number) true h tt)
-
-gate-numbers : (b : Bool) (batch : List ℕ) (s : State) (n : ℕ) → T (numbered (within 2 16) (gateRows (lentRow b ∷ []) batch s n))
+-- where the batch is whole and the state has its size, what follows speaks of a page of at most 64 or a key of at most 1024
+gate-given :
+    (b : Bool) (batch : List ℕ) (s : State) (n m p : ℕ) → Given m p (gateRows (lentRow b ∷ []) batch s n) →
+    (2 ≤ m) × (m ≤ 16) × (p < 1024)
 unfolding gateRows frontRows stateRows pagesRows
-gate-numbers b batch s n =
-    let ok = within 2 16 in
-    numbered-append ok (frontRows batch s n) (lentRow b ∷ pagesRows batch (keys s))
-    (each-numbers 13 (keys s) (λ k. wrongEntry n (entry s k)) tt)
-    (numbered-append ok (inTurn (pages batch) (rowsAt batch)) _
-    (numbered-turn ok (pages batch) (rowsAt batch) (λ j. numbered-moved ok (λ _. j) (wholeRows (pageAt batch j)) (whole-numbers (pageAt batch j))))
-    (numbered-append ok (eachRow 15 (pages batch) (again batch)) _
-    (each-numbers 15 (pages batch) (again batch) tt)
-    (each-numbers 16 (pages batch) (λ i. beyond (keys s) (txAt batch i)) tt)))
+gate-given b batch s n m p g =
+    ⊎-elim (λ q. (omega arith, omega arith, omega arith))
+    (λ c. ⊎-elim (λ q. (omega arith, omega arith, omega arith))
+    (λ d. in-batch m p (given-allowed inBatch (d .1) (rest (whole batch (c .0) .1) (sized s (d .0) .few))))
+    (parted (c .1)))
+    (parted g)
+  where
+    below : (j : ℕ) → j < 1024 → T (ltb j 1024)
+    below j h = of-true (ltb j 1024) (lt-ltb j 1024 h)
 
-pub plan-numbers : (batch : List ℕ) (s : State) (n : ℕ) (vs os out : List ℕ) (m p : ℕ) → planBatch batch s n vs os out .answer ≡ refuses m p → (2 ≤ m) × (m ≤ 16)
-plan-numbers batch s n vs os out m p e = bounds 2 16 m (given-numbered (within 2 16) (plan-refused batch s n vs os out m p .0 e) (gate-numbers _ batch s n))
+    rest :
+        pages batch ≤ 64 → keys s ≤ 1024 →
+        T (allow inBatch (eachRow 13 (keys s) (λ k. wrongEntry n (entry s k)) ++ (lentRow b ∷ pagesRows batch (keys s))))
+    rest few small =
+        allow-append inBatch (eachRow 13 (keys s) (λ k. wrongEntry n (entry s k))) (lentRow b ∷ pagesRows batch (keys s))
+        (allow-each inBatch 13 (keys s) (λ k. wrongEntry n (entry s k)) (λ j h. below j (omega arith)))
+        (allow-append inBatch (inTurn (pages batch) (rowsAt batch)) _
+        (allow-turn inBatch (pages batch) (rowsAt batch)
+        (λ j h. allow-moved inBatch (λ _. j) (wholeRows (pageAt batch j)) (whole-numbers (pageAt batch j) j (omega arith))))
+        (allow-append inBatch (eachRow 15 (pages batch) (again batch)) _
+        (allow-each inBatch 15 (pages batch) (again batch) (λ j h. below j (omega arith)))
+        (allow-each inBatch 16 (pages batch) (λ i. beyond (keys s) (txAt batch i)) (λ j h. below j (omega arith)))))
 
-pub commit-numbers : (batch : List ℕ) (s : State) (n : ℕ) (vs : List ℕ) (m p : ℕ) → commitBatch batch s n vs .answer ≡ refuses m p → (2 ≤ m) × (m ≤ 16)
-commit-numbers batch s n vs m p e = bounds 2 16 m (given-numbered (within 2 16) (commit-refused batch s n vs m p .0 e) (gate-numbers _ batch s n))
+pub plan-numbers :
+    (batch : List ℕ) (s : State) (n : ℕ) (vs os out : List ℕ) (m p : ℕ) → planBatch batch s n vs os out .answer ≡ refuses m p →
+    (2 ≤ m) × (m ≤ 16) × (p < 1024)
+plan-numbers batch s n vs os out m p e = gate-given _ batch s n m p (plan-refused batch s n vs os out m p .0 e)
 
-pub page-numbers : (p : List ℕ) (n q : ℕ) → readPage p .answer ≡ refuses n q → (1 ≤ n) × (n ≤ 10)
+pub commit-numbers :
+    (batch : List ℕ) (s : State) (n : ℕ) (vs : List ℕ) (m p : ℕ) → commitBatch batch s n vs .answer ≡ refuses m p →
+    (2 ≤ m) × (m ≤ 16) × (p < 1024)
+commit-numbers batch s n vs m p e = gate-given _ batch s n m p (commit-refused batch s n vs m p .0 e)
+
+pub page-numbers : (p : List ℕ) (n q : ℕ) → readPage p .answer ≡ refuses n q → (1 ≤ n) × (n ≤ 10) × (q ≡ 0)
 unfolding pageRows wholeRows headRows countRows entryRows
-page-numbers p n q e = bounds 1 10 n (given-numbered (within 1 10) (page-refused p n q .0 e) tt)
+page-numbers p n q e = on-page 1 10 n q (given-allowed (onPage 1 10) (page-refused p n q .0 e) tt)
 
-pub write-numbers : (batch : List ℕ) (index : ℕ) (t : Transaction) (n q : ℕ) → writePage batch index t .answer ≡ refuses n q → (4 ≤ n) × (n ≤ 17)
+pub write-numbers :
+    (batch : List ℕ) (index : ℕ) (t : Transaction) (n q : ℕ) → writePage batch index t .answer ≡ refuses n q →
+    (((4 ≤ n) × (n ≤ 9)) ⊎ (n ≡ 17)) × (q ≡ 0)
 unfolding writeRows countRows entryRows
-write-numbers batch index t n q e = bounds 4 17 n (given-numbered (within 4 17) (write-refused batch index t n q .0 e) tt)
+write-numbers batch index t n q e =
+    let a = given-allowed (λ m p. onPage 4 9 m p || onPage 17 17 m p) (write-refused batch index t n q .0 e) tt in
+    ⊎-elim
+    (λ x. let b = on-page 4 9 n q x in (inl (b .0, b .1), b .2))
+    (λ x. let b = on-page 17 17 n q x in (inr (omega (arith, b .0, b .1)), b .2))
+    (or-cases (onPage 4 9 n q) (onPage 17 17 n q) a)

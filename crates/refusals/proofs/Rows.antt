@@ -4,7 +4,7 @@ use native.Mathlib.Nat.{eq-or-lt-of-le, add-zero, add-suc, suc-add, zero-add}
 use native.Mathlib.Omega.{arith}
 use mathlib.Core.Bool.{Bool, true, false, true≢false, false≢true}
 use mathlib.Core.List.{List, [], _∷_, _++_}
-use mathlib.Core.Logic.{_↔_, ⊎-elim}
+use mathlib.Core.Logic.{_↔_, _⊎_, inl, inr, ⊎-elim}
 use mathlib.Core.Path.{_≡_, refl, sym, ap, ap₂, _∙_}
 use lib.Dec.{T}
 use Rattle.lists.specs.Choice.{pick}
@@ -215,31 +215,48 @@ module _ {A : Type 0} (rs : List Row) (answer : Outcome A)
 pub judged-given : {A : Type 0} (rs : List Row) (a : A) (n p : ℕ) → (judged (first rs) a ≡ refuses n p) ↔ Given n p rs
 judged-given rs a = by-table rs (judged (first rs) a) (λ h. (a, ap (λ f. judged f a) h)) (λ m q h. ap (λ f. judged f a) h)
 
--- ---- which numbers a table can give
+-- ---- what a table can give
 
--- each row's number passes the test
-abbrev pub numbered : (ℕ → Bool) → List Row → Bool
-numbered ok rs = all (λ r. ok (r .number)) rs
+-- each row's number and place pass the test
+abbrev pub allow : (ℕ → ℕ → Bool) → List Row → Bool
+allow ok rs = all (λ r. ok (r .number) (r .place)) rs
 
-module _ (ok : ℕ → Bool) where
-  pub numbered-append : (xs ys : List Row) → T (numbered ok xs) → T (numbered ok ys) → T (numbered ok (xs ++ ys))
-  numbered-append [] ys a b = b
-  numbered-append (r ∷ rs) ys a b =
-      both (ok (r .number)) _ (and-left (ok (r .number)) _ a) (numbered-append rs ys (and-right (ok (r .number)) _ a) b)
+module _ (ok : ℕ → ℕ → Bool) where
+  pub allow-append : (xs ys : List Row) → T (allow ok xs) → T (allow ok ys) → T (allow ok (xs ++ ys))
+  allow-append [] ys a b = b
+  allow-append (r ∷ rs) ys a b =
+      let t = ok (r .number) (r .place) in
+      both t _ (and-left t _ a) (allow-append rs ys (and-right t _ a) b)
 
-  numbered-from : (rows : ℕ → List Row) (i k : ℕ) → ((j : ℕ) → T (numbered ok (rows j))) → T (numbered ok (rowsFrom rows i k))
+  allow-from :
+      (rows : ℕ → List Row) (i k top : ℕ) → i + k ≤ top → ((j : ℕ) → j < top → T (allow ok (rows j))) →
+      T (allow ok (rowsFrom rows i k))
   unfolding rowsFrom
-  numbered-from rows i zero h = tt
-  numbered-from rows i (suc k) h = numbered-append (rows i) (rowsFrom rows (suc i) k) (h i) (numbered-from rows (suc i) k h)
+  allow-from rows i zero top h f = tt
+  allow-from rows i (suc k) top h f =
+      allow-append (rows i) (rowsFrom rows (suc i) k) (f i (omega arith)) (allow-from rows (suc i) k top (omega arith) f)
 
-  pub numbered-turn : (m : ℕ) (rows : ℕ → List Row) → ((j : ℕ) → T (numbered ok (rows j))) → T (numbered ok (inTurn m rows))
-  numbered-turn m rows h = numbered-from rows 0 m h
+  pub allow-turn : (m : ℕ) (rows : ℕ → List Row) → ((j : ℕ) → j < m → T (allow ok (rows j))) → T (allow ok (inTurn m rows))
+  allow-turn m rows f = allow-from rows 0 m m (omega arith) f
 
-  pub numbered-moved : (f : ℕ → ℕ) (rs : List Row) → T (numbered ok rs) → T (numbered ok (moved f rs))
-  unfolding moved
-  numbered-moved f [] a = tt
-  numbered-moved f (r ∷ rs) a = both (ok (r .number)) _ (and-left (ok (r .number)) _ a) (numbered-moved f rs (and-right (ok (r .number)) _ a))
+  pub allow-each : (n m : ℕ) (test : ℕ → Bool) → ((j : ℕ) → j < m → T (ok n j)) → T (allow ok (eachRow n m test))
+  allow-each n m test f = allow-turn m (λ i. row n i (test i) ∷ []) (λ j h. both (ok n j) true (f j h) tt)
 
-  pub given-numbered : {n p : ℕ} {rs : List Row} → Given n p rs → T (numbered ok rs) → T (ok n)
-  given-numbered (here {r = r} {rs = qs} e q c) a = rw e at (and-left (ok (r .number)) (numbered ok qs) a)
-  given-numbered (later {r = r} {rs = qs} c g) a = given-numbered g (and-right (ok (r .number)) (numbered ok qs) a)
+  pub given-allowed : {n p : ℕ} {rs : List Row} → Given n p rs → T (allow ok rs) → T (ok n p)
+  given-allowed (here {r = r} {rs = qs} e q c) a = rw (e, q) at (and-left (ok (r .number) (r .place)) (allow ok qs) a)
+  given-allowed (later {r = r} {rs = qs} c g) a = given-allowed g (and-right (ok (r .number) (r .place)) (allow ok qs) a)
+
+-- rows with other places pass where the test does at those
+pub allow-moved : (ok : ℕ → ℕ → Bool) (f : ℕ → ℕ) (rs : List Row) → T (allow (λ n p. ok n (f p)) rs) → T (allow ok (moved f rs))
+unfolding moved
+allow-moved ok f [] a = tt
+allow-moved ok f (r ∷ rs) a =
+    let t = ok (r .number) (f (r .place)) in
+    both t _ (and-left t _ a) (allow-moved ok f rs (and-right t _ a))
+
+-- what is given is of the first row, or its case is not there
+pub parted :
+    {n p : ℕ} {r : Row} {rs : List Row} → Given n p (r ∷ rs) →
+    ((r .number ≡ n) × (r .place ≡ p)) ⊎ ((r .case ≡ false) × Given n p rs)
+parted (here e q c) = inl (e, q)
+parted (later c g) = inr (c, g)

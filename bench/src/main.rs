@@ -37,7 +37,11 @@ fn wanted(mut arguments: impl Iterator<Item = String>) -> Option<Wanted> {
 /// Measures everything and prints each table as soon as it is there.
 fn tables(print: impl Fn(&Table)) -> (Vec<Table>, Vec<planning::Measured>) {
     let services = services::measure();
-    let mut tables = vec![services.table(), services.against_floor()];
+    let mut tables = vec![
+        services.table(),
+        services.by_page(),
+        services.against_floor(),
+    ];
     tables.iter().for_each(&print);
     let planned = planning::measure();
     let mut rest = vec![

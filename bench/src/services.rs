@@ -4,7 +4,6 @@
 use crate::answer::Answer;
 use crate::measure::{fastest, once, repeated, PASSES};
 use crate::node;
-use crate::planning::Measured;
 use crate::second::{self, StateMut, LONGEST, PAGE};
 use crate::table::{ratio, time, Table};
 use crate::workloads::{
@@ -298,41 +297,64 @@ impl Services {
         self.floors.bytes = self.floors.bytes.min(other.floors.bytes);
     }
 
-    /// Planning a full batch without conflicts.
-    pub fn full_plan(&self) -> &Row {
-        &self.batches[0]
+    /// Reading and writing a page, each full and small.
+    pub fn pages(&self) -> &[Row] {
+        &self.singles[..4]
     }
 
-    /// Committing it.
-    pub fn full_commit(&self) -> &Row {
-        &self.batches[1]
+    /// Planning and committing a full batch without conflicts, then one of small pages.
+    pub fn batches(&self) -> &[Row] {
+        &self.batches
+    }
+
+    /// All rows.
+    pub fn rows(&self) -> impl Iterator<Item = &Row> {
+        self.singles.iter().chain(self.on_batches())
     }
 
     fn on_batches(&self) -> impl Iterator<Item = &Row> {
         std::iter::once(&self.gate).chain(&self.batches)
     }
 
-    /// The row, workloads included, that is slowest beside Rust, with its ratio.
-    pub fn slowest<'a>(&'a self, planned: &'a [Measured]) -> (&'a str, f64) {
-        let rows = self.singles.iter().chain(self.on_batches());
-        let rows = rows.map(|row| (row.name.as_str(), row.ours / row.rust));
-        let planned = planned
-            .iter()
-            .map(|one| (one.name.as_str(), one.ours / one.rust));
-        let slowest = rows
-            .chain(planned)
-            .max_by(|one, other| one.1.total_cmp(&other.1));
-        slowest.expect("there are rows")
-    }
-
     /// Every service beside Rust.
     pub fn table(&self) -> Table {
         let mut table = Table::new("Services", &["What", "ours", "Rust", "ours / Rust"]);
-        for row in self.singles.iter().chain(self.on_batches()) {
+        for row in self.rows() {
             let cells = [time(row.ours), time(row.rust), ratio(row.ours / row.rust)];
             table
                 .rows
                 .push([vec![row.name.clone()], cells.to_vec()].concat());
+        }
+        table
+    }
+
+    /// What a plan takes by page and by entry.
+    pub fn by_page(&self) -> Table {
+        let head = [
+            "Plan of 64 pages",
+            "a page",
+            "an entry",
+            "Rust: a page",
+            "an entry",
+        ];
+        let mut table = Table::new("A plan by page and by entry", &head);
+        let [full, _, small, _] = &self.batches;
+        for (what, row, entries) in [
+            ("full", full, 2 * FULL_PAGE),
+            ("1 read and 1 write", small, 2),
+        ] {
+            let page = |time_of_all: f64| time_of_all / FULL_BATCH as f64;
+            let entry = |time_of_all: f64| page(time_of_all) / entries as f64;
+            let cells = [
+                page(row.ours),
+                entry(row.ours),
+                page(row.rust),
+                entry(row.rust),
+            ]
+            .map(time);
+            table
+                .rows
+                .push([vec![what.to_string()], cells.to_vec()].concat());
         }
         table
     }

@@ -61,7 +61,9 @@ fn row(cells: &[String], widths: &[usize], open: &str, between: &str, close: &st
 
 /// Nanoseconds with a unit that suits them.
 pub fn time(nanoseconds: f64) -> String {
-    if nanoseconds < 1e3 {
+    if nanoseconds < 10.0 {
+        format!("{nanoseconds:.1} ns")
+    } else if nanoseconds < 1e3 {
         format!("{nanoseconds:.0} ns")
     } else if nanoseconds < 1e6 {
         format!("{:.1} µs", nanoseconds / 1e3)

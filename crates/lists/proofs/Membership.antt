@@ -6,11 +6,12 @@ use mathlib.Core.Path.{_≡_, refl, sym, ap, ap₂, subst, _∙_}
 use Prim.Native.Nat.{ℕ, zero, suc, _+_, _≤_, _<_}
 use native.Mathlib.Numerals.{add-one}
 use native.Mathlib.Omega.{arith}
-use lib.ListN.{length, getD, length-append}
+use lib.ListN.{length, getD, take, length-append}
+use lib.Seq.{take-suc}
 use lib.Dec.{T, T-not, eqb, eqb-refl, eqb→eq}
 use Rattle.lists.specs.Choice.{pick}
 use Rattle.lists.specs.Members.{_∈_, any, all, those, distinct, upto}
-use Rattle.lists.proofs.Tests.{both, and-left, and-right, or-left, or-right, or-cases, by-test, decide, clash, eqb-sym, differ, unequal}
+use Rattle.lists.proofs.Tests.{both, and-left, and-right, or-left, or-right, or-cases, or-false, by-test, decide, clash, eqb-sym, differ, unequal}
 
 module _ {A : Type 0} where
   -- ---- tests over all members
@@ -25,6 +26,20 @@ module _ {A : Type 0} where
       go : T (p y) ⊎ T (any p ys) → (T (any p ys) → (x : A) × (x ∈ ys) × T (p x)) → (x : A) × (x ∈ (y ∷ ys)) × T (p x)
       go (inl u) f = (y, List·Memᴰ·head refl, u)
       go (inr u) f = (f u .0, List·Memᴰ·tail (f u .1), f u .2)
+
+  pub any-append : (p : A → Bool) (xs ys : List A) → any p (xs ++ ys) ≡ (any p xs || any p ys)
+  any-append p [] ys = refl
+  any-append p (x ∷ xs) ys = go (p x) (any-append p xs ys)
+    where
+      go : (b : Bool) → any p (xs ++ ys) ≡ (any p xs || any p ys) → (b || any p (xs ++ ys)) ≡ ((b || any p xs) || any p ys)
+      go true e = refl
+      go false e = e
+
+  -- one more entry that may pass
+  pub any-next : (p : A → Bool) (xs : List A) (j : ℕ) (d : A) → j < length xs → any p (take (j + 1) xs) ≡ (any p (take j xs) || p (getD xs j d))
+  any-next p xs j d h =
+      rw (add-one, take-suc xs j d h)
+      (any-append p (take j xs) (getD xs j d ∷ []) ∙ ap (λ b. any p (take j xs) || b) (or-false (p (getD xs j d))))
 
   pub all-in : (p : A → Bool) (xs : List A) → ((x : A) → x ∈ xs → T (p x)) → T (all p xs)
   all-in p [] f = tt

@@ -28,6 +28,10 @@ pub or-cases : (a b : Bool) → T (a || b) → T a ⊎ T b
 or-cases true b p = inl tt
 or-cases false b p = inr p
 
+pub or-false : (b : Bool) → (b || false) ≡ b
+or-false true = refl
+or-false false = refl
+
 -- a test passes or its negation does
 pub decide : (b : Bool) → T b ⊎ T (not b)
 decide true = inl tt
@@ -102,8 +106,11 @@ module _ {B : Type 0} where
   by-test P false f g = g tt
 
 -- unequal numbers, as a test and as a fact
+pub eqb-turned : (i j : ℕ) → eqb i j ≡ eqb j i
+eqb-turned i j = same-test (eqb i j) (eqb j i) (λ t. rw (eqb→eq i j t) (eqb-refl j)) (λ t. rw (eqb→eq j i t) (eqb-refl i))
+
 pub eqb-sym : (i j : ℕ) → T (not (eqb i j)) → T (not (eqb j i))
-eqb-sym i j t = not-T (eqb j i) (λ u. T-not (eqb i j) t (rw (eqb→eq j i u) (eqb-refl i)))
+eqb-sym i j t = rw (← eqb-turned i j) t
 
 pub differ : (i j : ℕ) → T (not (eqb i j)) → i ≡ j → ⊥
 differ i j t e = T-not (eqb i j) t (rw e (eqb-refl j))

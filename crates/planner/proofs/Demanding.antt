@@ -10,8 +10,8 @@ use lib.ListN.{length, getD, take, drop, set, replicate, length-set, getD-replic
 use lib.Seq.{take-all, getD-set-same, getD-set-other}
 use Rattle.lists.specs.Choice.{pick}
 use Rattle.lists.specs.Members.{_∈_, any}
-use Rattle.lists.proofs.Membership.{in-at, any-same, any-map, map-out}
-use Rattle.lists.proofs.Tests.{same-test}
+use Rattle.lists.proofs.Membership.{in-at, any-same, any-map, any-next, map-out}
+use Rattle.lists.proofs.Tests.{same-test, or-false}
 use Rattle.sets.specs.Set.{member}
 use Rattle.sets.proofs.Laws.{none}
 use Rattle.ledger.specs.declared.Read.{Read}
@@ -23,7 +23,6 @@ use Rattle.ledger.specs.Gate.{txAt}
 use Rattle.ledger.proofs.Rising.{read-keys, write-keys}
 use Rattle.planner.specs.Ranks.{demands, nth, Ranked}
 use Rattle.planning.specs.Plan.{before}
-use Rattle.planner.proofs.Filling.{or-false, any-next}
 
 -- ---- tests
 

@@ -20,27 +20,6 @@ use Rattle.ledger.proofs.Placed.{part-back}
 use Rattle.planner.specs.Ranks.{nth}
 use Rattle.planning.specs.Plan.{gathered}
 
--- ---- tests
-
-pub eqb-turned : (i j : ℕ) → eqb i j ≡ eqb j i
-eqb-turned i j = same-test (eqb i j) (eqb j i) (λ t. rw (eqb→eq i j t) (eqb-refl j)) (λ t. rw (eqb→eq j i t) (eqb-refl i))
-
-pub or-false : (b : Bool) → (b || false) ≡ b
-or-false true = refl
-or-false false = refl
-
-pub any-append : {A : Type 0} (p : A → Bool) (xs ys : List A) → any p (xs ++ ys) ≡ (any p xs || any p ys)
-any-append p [] ys = refl
-any-append p (x ∷ xs) ys = go (p x) (any-append p xs ys)
-  where
-    go : (b : Bool) → any p (xs ++ ys) ≡ (any p xs || any p ys) → (b || any p (xs ++ ys)) ≡ ((b || any p xs) || any p ys)
-    go true e = refl
-    go false e = e
-
--- one more entry that may pass
-pub any-next : {A : Type 0} (p : A → Bool) (xs : List A) (j : ℕ) (d : A) → j < length xs → any p (take (j + 1) xs) ≡ (any p (take j xs) || p (getD xs j d))
-any-next p xs j d h = rw (add-one, take-suc xs j d h) (any-append p (take j xs) (getD xs j d ∷ []) ∙ ap (λ b. any p (take j xs) || b) (or-false (p (getD xs j d))))
-
 -- ---- the verdict of a page
 
 pub stale : (current kept : Bool) → not current ≡ true → _≡_ {A = ℕ} 1 (pick current (pick kept 0 2) 1)

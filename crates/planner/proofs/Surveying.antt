@@ -7,7 +7,7 @@ use borrow.Author.Tests.{le-ltb}
 use lib.Dec.{eqb, ltb}
 use Rattle.sets.specs.Set.{member}
 use Rattle.sets.proofs.Laws.{none}
-use Rattle.planner.proofs.Filling.{or-false}
+use Rattle.lists.proofs.Tests.{or-false}
 use Rattle.planner.proofs.Demanding.{below-next}
 
 -- ---- the set of those that pass a test

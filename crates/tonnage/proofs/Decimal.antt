@@ -10,7 +10,8 @@ use lib.Seq.{length-take-le, take-all, take-suc}
 use lib.Dec.{eqb, leb, ltb}
 use borrow.Author.Tests.{ltb-true, ltb-false, le-leb, leb-true, eq-eqb, eqb-true}
 use Rattle.tonnage.specs.Text.{follow, digits, width}
-use Rattle.tonnage.specs.Grammar.{each, digit}
+use Rattle.lists.specs.Members.{all}
+use Rattle.tonnage.specs.Grammar.{digit}
 use Rattle.tonnage.proofs.Laying.{and-both}
 use Rattle.tonnage.proofs.Runs.{width-one, width-more, width-some, length-digits}
 
@@ -46,17 +47,17 @@ digit-in c e = let b = and-both (leb 48 c) (leb c 57) e in (leb-true 48 c (b .0)
 pub in-digit : (c : ℕ) → 48 ≤ c → c ≤ 57 → digit c ≡ true
 in-digit c h k = rw (le-leb 48 c h, le-leb c 57 k)
 
-pub each-append : (p : ℕ → Bool) (a b : List ℕ) → each p (a ++ b) ≡ (each p a && each p b)
-each-append p [] b = refl
-each-append p (c ∷ a) b = rw (each-append p a b) (go (p c))
+pub all-append : (p : ℕ → Bool) (a b : List ℕ) → all p (a ++ b) ≡ (all p a && all p b)
+all-append p [] b = refl
+all-append p (c ∷ a) b = rw (all-append p a b) (go (p c))
   where
-    go : (t : Bool) → (t && (each p a && each p b)) ≡ (t && each p a && each p b)
+    go : (t : Bool) → (t && (all p a && all p b)) ≡ (t && all p a && all p b)
     go true = refl
     go false = refl
 
-each-last : (p : ℕ → Bool) (init : List ℕ) (d : ℕ) → each p (init ++ (d ∷ [])) ≡ true → (each p init ≡ true) × (p d ≡ true)
-each-last p init d e =
-    let b = and-both (each p init) (each p (d ∷ [])) (sym (each-append p init (d ∷ [])) ∙ e) in
+all-last : (p : ℕ → Bool) (init : List ℕ) (d : ℕ) → all p (init ++ (d ∷ [])) ≡ true → (all p init ≡ true) × (p d ≡ true)
+all-last p init d e =
+    let b = and-both (all p init) (all p (d ∷ [])) (sym (all-append p init (d ∷ [])) ∙ e) in
     (b .0, and-both (p d) true (b .1) .0)
 
 pub follow-append : (n : ℕ) (a b : List ℕ) → follow n (a ++ b) ≡ follow (follow n a) b
@@ -74,14 +75,14 @@ follow-least n [] = le-refl n
 follow-least n (c ∷ ds) = omega (arith, follow-least (10 * n + (c - 48)) ds)
 
 -- the digits of the number that a run writes are the run
-pub run-digits : (n : ℕ) (ds : List ℕ) → each digit ds ≡ true → digits (length ds) (follow n ds) ≡ ds
+pub run-digits : (n : ℕ) (ds : List ℕ) → all digit ds ≡ true → digits (length ds) (follow n ds) ≡ ds
 unfolding digits
-run-digits n = ends (λ ds. each digit ds ≡ true → digits (length ds) (follow n ds) ≡ ds) (λ e. refl) step
+run-digits n = ends (λ ds. all digit ds ≡ true → digits (length ds) (follow n ds) ≡ ds) (λ e. refl) step
   where
-    step : (init : List ℕ) (d : ℕ) → (each digit init ≡ true → digits (length init) (follow n init) ≡ init)
-        → each digit (init ++ (d ∷ [])) ≡ true → digits (length (init ++ (d ∷ []))) (follow n (init ++ (d ∷ []))) ≡ init ++ (d ∷ [])
+    step : (init : List ℕ) (d : ℕ) → (all digit init ≡ true → digits (length init) (follow n init) ≡ init)
+        → all digit (init ++ (d ∷ [])) ≡ true → digits (length (init ++ (d ∷ []))) (follow n (init ++ (d ∷ []))) ≡ init ++ (d ∷ [])
     step init d ih e =
-        let b = each-last digit init d e in
+        let b = all-last digit init d e in
         let r = digit-in d (b .1) in
         let l : length (init ++ (d ∷ [])) ≡ suc (length init) = length-append init (d ∷ []) ∙ omega arith in
         let front : (10 * follow n init + (d - 48)) / 10 ≡ follow n init = omega arith in
@@ -89,18 +90,18 @@ run-digits n = ends (λ ds. each digit ds ≡ true → digits (length ds) (follo
         rw (l, follow-last n init d, front, back, ih (b .0))
 
 -- a run without needless zeros is as long as its number is wide
-pub run-width : (ds : List ℕ) → each digit ds ≡ true → 0 < length ds → (getD ds 0 0 ≡ 48 → length ds ≡ 1) → width (follow 0 ds) ≡ length ds
+pub run-width : (ds : List ℕ) → all digit ds ≡ true → 0 < length ds → (getD ds 0 0 ≡ 48 → length ds ≡ 1) → width (follow 0 ds) ≡ length ds
 unfolding follow
-run-width = ends (λ ds. each digit ds ≡ true → 0 < length ds → (getD ds 0 0 ≡ 48 → length ds ≡ 1) → width (follow 0 ds) ≡ length ds) (λ e h l. absurd (omega arith)) step
+run-width = ends (λ ds. all digit ds ≡ true → 0 < length ds → (getD ds 0 0 ≡ 48 → length ds ≡ 1) → width (follow 0 ds) ≡ length ds) (λ e h l. absurd (omega arith)) step
   where
-    step : (init : List ℕ) (d : ℕ) → (each digit init ≡ true → 0 < length init → (getD init 0 0 ≡ 48 → length init ≡ 1) → width (follow 0 init) ≡ length init)
-        → each digit (init ++ (d ∷ [])) ≡ true → 0 < length (init ++ (d ∷ [])) → (getD (init ++ (d ∷ [])) 0 0 ≡ 48 → length (init ++ (d ∷ [])) ≡ 1)
+    step : (init : List ℕ) (d : ℕ) → (all digit init ≡ true → 0 < length init → (getD init 0 0 ≡ 48 → length init ≡ 1) → width (follow 0 init) ≡ length init)
+        → all digit (init ++ (d ∷ [])) ≡ true → 0 < length (init ++ (d ∷ [])) → (getD (init ++ (d ∷ [])) 0 0 ≡ 48 → length (init ++ (d ∷ [])) ≡ 1)
         → width (follow 0 (init ++ (d ∷ []))) ≡ length (init ++ (d ∷ []))
-    step [] d ih e h l = let r = digit-in d (each-last digit [] d e .1) in width-one (10 * 0 + (d - 48)) (omega arith)
+    step [] d ih e h l = let r = digit-in d (all-last digit [] d e .1) in width-one (10 * 0 + (d - 48)) (omega arith)
     step (c ∷ cs) d ih e h l =
-        let b = each-last digit (c ∷ cs) d e in
+        let b = all-last digit (c ∷ cs) d e in
         let r = digit-in d (b .1) in
-        let q = digit-in c (and-both (digit c) (each digit cs) (b .0) .0) in
+        let q = digit-in c (and-both (digit c) (all digit cs) (b .0) .0) in
         let n : length (cs ++ (d ∷ [])) ≡ length cs + 1 = length-append cs (d ∷ []) in
         let lead : c ≡ 48 → ⊥ = λ z. omega (arith, l z) in
         let w = ih (b .0) (omega arith) (λ z. absurd (lead z)) in
@@ -110,41 +111,41 @@ run-width = ends (λ ds. each digit ds ≡ true → 0 < length ds → (getD ds 0
         rw (follow-last 0 (c ∷ cs) d, width-more (10 * m + (d - 48)) some, front, w, n) (omega arith)
 
 -- a run writes 0 exactly where it is of zeros
-pub zeros-follow : (ds : List ℕ) → each (eqb 48) ds ≡ true → follow 0 ds ≡ 0
+pub zeros-follow : (ds : List ℕ) → all (eqb 48) ds ≡ true → follow 0 ds ≡ 0
 unfolding follow
 zeros-follow [] e = refl
 zeros-follow (c ∷ ds) e =
-    let b = and-both (eqb 48 c) (each (eqb 48) ds) e in
+    let b = and-both (eqb 48 c) (all (eqb 48) ds) e in
     rw (← eqb-true 48 c (b .0)) (zeros-follow ds (b .1))
 
-pub follow-zeros : (n : ℕ) (ds : List ℕ) → each digit ds ≡ true → follow n ds ≡ 0 → each (eqb 48) ds ≡ true
+pub follow-zeros : (n : ℕ) (ds : List ℕ) → all digit ds ≡ true → follow n ds ≡ 0 → all (eqb 48) ds ≡ true
 unfolding follow
 follow-zeros n [] d e = refl
 follow-zeros n (c ∷ ds) d e =
-    let b = and-both (digit c) (each digit ds) d in
+    let b = and-both (digit c) (all digit ds) d in
     let r = digit-in c (b .0) in
     rw (eq-eqb 48 c (omega (arith, follow-least (10 * n + (c - 48)) ds))) (follow-zeros (10 * n + (c - 48)) ds (b .1) e)
 
 -- three digits behind a number are its thousandths
-pub run-tonnes : (w : ℕ) (part : List ℕ) → length part ≡ 3 → each digit part ≡ true → follow w part / 1000 ≡ w
+pub run-tonnes : (w : ℕ) (part : List ℕ) → length part ≡ 3 → all digit part ≡ true → follow w part / 1000 ≡ w
 unfolding follow
 run-tonnes w [] h d = absurd (omega arith)
 run-tonnes w (a ∷ []) h d = absurd (omega arith)
 run-tonnes w (a ∷ b ∷ []) h d = absurd (omega arith)
 run-tonnes w (a ∷ b ∷ c ∷ []) h d =
-    let x = and-both (digit a) (each digit (b ∷ c ∷ [])) d in
-    let y = and-both (digit b) (each digit (c ∷ [])) (x .1) in
+    let x = and-both (digit a) (all digit (b ∷ c ∷ [])) d in
+    let y = and-both (digit b) (all digit (c ∷ [])) (x .1) in
     let z = and-both (digit c) true (y .1) in
     omega (arith, digit-in a (x .0), digit-in b (y .0), digit-in c (z .0))
 run-tonnes w (a ∷ b ∷ c ∷ e ∷ part) h d = absurd (omega arith)
 
 -- ---- digits of numbers
 
-pub digits-each : (k n : ℕ) → each digit (digits k n) ≡ true
+pub digits-all : (k n : ℕ) → all digit (digits k n) ≡ true
 unfolding digits
-digits-each zero n = refl
-digits-each (suc k) n =
-    rw (each-append digit (digits k (n / 10)) ((48 + n % 10) ∷ []), digits-each k (n / 10), in-digit (48 + n % 10) (omega arith) (omega arith))
+digits-all zero n = refl
+digits-all (suc k) n =
+    rw (all-append digit (digits k (n / 10)) ((48 + n % 10) ∷ []), digits-all k (n / 10), in-digit (48 + n % 10) (omega arith) (omega arith))
 
 pub digits-three : (n : ℕ) → digits 3 (n % 1000) ≡ digits 3 n
 unfolding digits

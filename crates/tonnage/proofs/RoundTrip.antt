@@ -17,7 +17,7 @@ use Rattle.refusals.specs.Fault.{first}
 use Rattle.refusals.proofs.Rows.{row-none, judged-gives}
 use Rattle.tonnage.proofs.Runs.{length-digits, width-some, narrow}
 use Rattle.tonnage.proofs.Answers.{length-text, sign-length}
-use Rattle.tonnage.proofs.Decimal.{run-digits, run-width, run-tonnes, digits-each, digits-three, digits-follow, rest-follow, first-lean}
+use Rattle.tonnage.proofs.Decimal.{run-digits, run-width, run-tonnes, digits-all, digits-three, digits-follow, rest-follow, first-lean}
 use Rattle.tonnage.proofs.Spelling.{Spelt, spelt-form, spelt-figure, form-spelt}
 
 -- ---- the text of a figure
@@ -35,10 +35,10 @@ spelt-text z =
     record {
       spelt = refl;
       some = rw (length-digits (width (tonnes z)) (tonnes z)) (width-some (tonnes z));
-      whole-digits = digits-each (width (tonnes z)) (tonnes z);
+      whole-digits = digits-all (width (tonnes z)) (tonnes z);
       lean = λ h. length-digits (width (tonnes z)) (tonnes z) ∙ first-lean (tonnes z) h;
       three = length-digits 3 (rest z);
-      part-digits = digits-each 3 (rest z);
+      part-digits = digits-all 3 (rest z);
       above-zero = λ h. rw (size-of z) (size-above z h);
     }
 

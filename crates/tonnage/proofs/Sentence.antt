@@ -7,9 +7,10 @@ use Prim.Native.Nat.{ℕ, zero, suc, _<_}
 use native.Mathlib.Omega.{arith}
 use lib.Dec.{T, eqb}
 use Rattle.tonnage.specs.Text.{form, follow}
-use Rattle.tonnage.specs.Grammar.{each, digit, Tonnage}
+use Rattle.lists.specs.Members.{all}
+use Rattle.tonnage.specs.Grammar.{digit, Tonnage}
 use Rattle.tonnage.proofs.Answers.{signText}
-use Rattle.tonnage.proofs.Decimal.{each-append, follow-append, zeros-follow, follow-zeros}
+use Rattle.tonnage.proofs.Decimal.{all-append, follow-append, zeros-follow, follow-zeros}
 use Rattle.tonnage.proofs.Spelling.{Spelt, spelt-form, form-spelt}
 
 holds : (b : Bool) → T b → b ≡ true
@@ -21,20 +22,20 @@ test true e = tt
 test false e = absurd (false≢true e)
 
 -- digits write more than 0 exactly where they are not all zeros
-above : (whole part : List ℕ) → each digit whole ≡ true → each digit part ≡ true → T (not (each (eqb 48) (whole ++ part)))
+above : (whole part : List ℕ) → all digit whole ≡ true → all digit part ≡ true → T (not (all (eqb 48) (whole ++ part)))
     → 0 < follow (follow 0 whole) part
 above whole part w p n = go (follow (follow 0 whole) part) refl
   where
     go : (k : ℕ) → follow (follow 0 whole) part ≡ k → 0 < k
     go zero e =
-        let d : each digit (whole ++ part) ≡ true = rw (each-append digit whole part, w, p) in
+        let d : all digit (whole ++ part) ≡ true = rw (all-append digit whole part, w, p) in
         absurd (rw (follow-zeros 0 (whole ++ part) d (follow-append 0 whole part ∙ e)) at n)
     go (suc k) e = omega arith
 
-not-zeros : (whole part : List ℕ) → 0 < follow (follow 0 whole) part → T (not (each (eqb 48) (whole ++ part)))
-not-zeros whole part h = go (each (eqb 48) (whole ++ part)) refl
+not-zeros : (whole part : List ℕ) → 0 < follow (follow 0 whole) part → T (not (all (eqb 48) (whole ++ part)))
+not-zeros whole part h = go (all (eqb 48) (whole ++ part)) refl
   where
-    go : (b : Bool) → each (eqb 48) (whole ++ part) ≡ b → T (not b)
+    go : (b : Bool) → all (eqb 48) (whole ++ part) ≡ b → T (not b)
     go true e = absurd (omega (arith, zeros-follow (whole ++ part) e, follow-append 0 whole part))
     go false e = tt
 
@@ -42,8 +43,8 @@ not-zeros whole part h = go (each (eqb 48) (whole ++ part)) refl
 
 worded : (m : Bool) (text : List ℕ) (t : Tonnage text) → t .sign ≡ signText m → Spelt m (t .whole) (t .part) text
 worded m text t e =
-    let w = holds (each digit (t .whole)) (t .whole-digits) in
-    let p = holds (each digit (t .part)) (t .part-digits) in
+    let w = holds (all digit (t .whole)) (t .whole-digits) in
+    let p = holds (all digit (t .part)) (t .part-digits) in
     record {
       spelt = t .spelt ∙ ap (λ (s : List ℕ). s ++ (t .whole ++ (44 ∷ t .part))) e;
       some = t .some;
@@ -73,10 +74,10 @@ in-words {m} {whole} {part} s =
       spelt = s .spelt;
       optional = optional m;
       some = s .some;
-      whole-digits = test (each digit whole) (s .whole-digits);
+      whole-digits = test (all digit whole) (s .whole-digits);
       lean = s .lean;
       three = s .three;
-      part-digits = test (each digit part) (s .part-digits);
+      part-digits = test (all digit part) (s .part-digits);
       not-minus-zero = λ e. not-zeros whole part (s .above-zero (minus-sign m e));
     }
 

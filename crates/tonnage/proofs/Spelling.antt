@@ -14,7 +14,8 @@ use Rattle.lists.specs.Choice.{pick}
 use Rattle.lists.specs.Search.{firstIn}
 use Rattle.lists.proofs.Searches.{miss, done, passed}
 use Rattle.tonnage.specs.Text.{minus, start, point, other, follow, size, laid, form, signed, figure}
-use Rattle.tonnage.specs.Grammar.{each, digit}
+use Rattle.lists.specs.Members.{all}
+use Rattle.tonnage.specs.Grammar.{digit}
 use Rattle.tonnage.proofs.Runs.{digit-range, no-other}
 use Rattle.tonnage.proofs.Laying.{and-both, Laid, laid-facts, facts-laid}
 use Rattle.tonnage.proofs.Answers.{signText}
@@ -22,7 +23,7 @@ use Rattle.tonnage.proofs.Decimal.{digit-in, in-digit}
 
 -- ---- searches for another character than a digit
 
-passed-each : (k i to : ℕ) (text : List ℕ) → to ≡ i + k → to ≤ length text → to ≤ firstIn (other text) i to → each digit (slice i to text) ≡ true
+passed-each : (k i to : ℕ) (text : List ℕ) → to ≡ i + k → to ≤ length text → to ≤ firstIn (other text) i to → all digit (slice i to text) ≡ true
 passed-each zero i to text e h f = let same : to ≡ i = omega arith in rw (same, slice-empty i text)
 passed-each (suc k) i to text e h f =
     let l : i < to = omega arith in
@@ -30,11 +31,11 @@ passed-each (suc k) i to text e h f =
     let r = digit-range (getD text i 0) (p .0) in
     rw (slice-cons i to text 0 l h, in-digit (getD text i 0) (r .0) (r .1)) (passed-each k (suc i) to text (omega arith) h (rw add-one at (p .1)))
 
-each-passed : (k i to : ℕ) (text : List ℕ) → to ≡ i + k → to ≤ length text → each digit (slice i to text) ≡ true → to ≤ firstIn (other text) i to
+each-passed : (k i to : ℕ) (text : List ℕ) → to ≡ i + k → to ≤ length text → all digit (slice i to text) ≡ true → to ≤ firstIn (other text) i to
 each-passed zero i to text e h d = let same : i ≡ to = omega arith in rw (same, done (other text) to) (omega arith)
 each-passed (suc k) i to text e h d =
     let l : i < to = omega arith in
-    let b = and-both (digit (getD text i 0)) (each digit (slice (suc i) to text)) (rw (slice-cons i to text 0 l h) at d) in
+    let b = and-both (digit (getD text i 0)) (all digit (slice (suc i) to text)) (rw (slice-cons i to text 0 l h) at d) in
     let r = digit-in (getD text i 0) (b .0) in
     rw (miss (other text) i to l (no-other (getD text i 0) (r .0) (r .1)), add-one) (each-passed k (suc i) to text (omega arith) h (b .1))
 
@@ -99,18 +100,18 @@ module _ (m : Bool) (whole part : List ℕ) (some : 0 < length whole) (first : 4
 pub record Spelt (m : Bool) (whole part text : List ℕ) : Type 0 where
   pub spelt : text ≡ spell m whole part
   pub some : 0 < length whole
-  pub whole-digits : each digit whole ≡ true
+  pub whole-digits : all digit whole ≡ true
   pub lean : getD whole 0 0 ≡ 48 → length whole ≡ 1
   pub three : length part ≡ 3
-  pub part-digits : each digit part ≡ true
+  pub part-digits : all digit part ≡ true
   pub above-zero : m ≡ true → 0 < follow (follow 0 whole) part
 
-first-digit-of : (whole : List ℕ) → 0 < length whole → each digit whole ≡ true → 48 ≤ getD whole 0 0
+first-digit-of : (whole : List ℕ) → 0 < length whole → all digit whole ≡ true → 48 ≤ getD whole 0 0
 first-digit-of [] h d = absurd (omega arith)
-first-digit-of (c ∷ cs) h d = digit-in c (and-both (digit c) (each digit cs) d .0) .0
+first-digit-of (c ∷ cs) h d = digit-in c (and-both (digit c) (all digit cs) d .0) .0
 
-spell-laid : (m : Bool) (whole part : List ℕ) → 0 < length whole → each digit whole ≡ true → (getD whole 0 0 ≡ 48 → length whole ≡ 1)
-    → length part ≡ 3 → each digit part ≡ true → Laid (spell m whole part)
+spell-laid : (m : Bool) (whole part : List ℕ) → 0 < length whole → all digit whole ≡ true → (getD whole 0 0 ≡ 48 → length whole ≡ 1)
+    → length part ≡ 3 → all digit part ≡ true → Laid (spell m whole part)
 spell-laid m whole part some wd lean three pd =
     let text : List ℕ = spell m whole part in
     let first = first-digit-of whole some wd in

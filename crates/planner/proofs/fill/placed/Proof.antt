@@ -10,7 +10,8 @@ use lib.ListN.{length, getD, take}
 use Rattle.lists.specs.Members.{any}
 use Rattle.sets.specs.Set.{member}
 use Rattle.sets.proofs.Laws.{none}
-use Rattle.planner.proofs.Filling.{eqb-turned, any-next}
+use Rattle.lists.proofs.Tests.{eqb-turned}
+use Rattle.lists.proofs.Membership.{any-next}
 use Rattle.planner.proofs.fill.placed.Statement.{statement}
 use Rattle.planner.proofs.fill.placed.Tie as tie
 

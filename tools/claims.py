@@ -34,7 +34,7 @@ def declared(path, known={}):
             files = [f for f in sorted(path.iterdir()) if f.is_file()]
             known[path] = {f.stem for f in files}.union(*(declared(f) for f in files))
         else:
-            text = path.read_text(encoding="utf-8")
+            text = path.read_text(encoding="utf-8", errors="replace")
             rule = ANTT if path.suffix == ".antt" else RT if path.suffix == ".rt" else WORD
             known[path] = set(rule.findall(text))
     return known[path]

@@ -28,9 +28,8 @@ use Rattle.ledger.proofs.Back.{Fitting, good-back}
 use Rattle.ledger.proofs.Pages.{good-counted}
 use Rattle.planning.specs.Plan.{short, planRows}
 use Rattle.planning.proofs.Opened.{own}
-use Rattle.lister.specs.Written.{first}
+use Rattle.report.specs.Program.{startNumber, start}
 use Rattle.claims.specs.Cases.{batchOf}
-use Rattle.claims.specs.Shown.{start}
 use Rattle.claims.proofs.OutBatch.{page-first, page-next}
 use Rattle.claims.proofs.Shown.{long}
 
@@ -53,10 +52,10 @@ start-lengths : wrongLengths start ≡ false
 unfolding start
 start-lengths = refl
 
-start-rows : firstOf (stateRows start first) ≡ clear
+start-rows : firstOf (stateRows start startNumber) ≡ clear
 start-rows =
-    state-rest start first start-lengths
-    ∙ test-clear 13 (keys start) (λ k. wrongEntry first (entry start k)) (λ k h. rw (start-absent k (rw start-keys at h)))
+    state-rest start startNumber start-lengths
+    ∙ test-clear 13 (keys start) (λ k. wrongEntry startNumber (entry start k)) (λ k h. rw (start-absent k (rw start-keys at h)))
 
 -- ---- the pages of good transactions
 
@@ -161,7 +160,7 @@ later input = after input 1024
 
 -- what it finds in an input of the program
 abbrev pub shut : List ℕ → Fault
-shut input = firstOf (planRows input start first (replicate 64 0) (replicate 64 0) (replicate 32768 0))
+shut input = firstOf (planRows input start startNumber (replicate 64 0) (replicate 64 0) (replicate 32768 0))
 
 not-short : (m v o u : ℕ) → m ≤ 64 → 64 ≤ v → 64 ≤ o → 32768 ≤ u → (ltb v m || ltb o m || ltb u (512 * m)) ≡ false
 not-short m v o u h a b c = rw (le-ltb v m (omega arith), le-ltb o m (omega arith), le-ltb u (512 * m) (omega arith))
@@ -170,6 +169,6 @@ pub open-gate : (xs : List Tx) → T (all good xs) → length xs ≤ 64 → late
 open-gate xs t few e =
     let l : length (batchOf xs) ≡ length xs * 512 = batch-long xs t in
     let p : pages (batchOf xs) ≤ 64 = omega arith in
-    open-over xs start first (replicate 64 0) (replicate 64 0) (replicate 32768 0) t few start-rows
+    open-over xs start startNumber (replicate 64 0) (replicate 64 0) (replicate 32768 0) t few start-rows
     (not-short (pages (batchOf xs)) _ _ _ p (long 64 0) (long 64 0) (long 32768 0))
     (ap (after (batchOf xs)) start-keys ∙ e)

@@ -2,7 +2,7 @@
 use Prim.Native.Nat.{ℕ, _*_, _≤_, _<_}
 use native.Mathlib.Omega.{arith}
 use mathlib.Core.Bool.{true, false}
-use mathlib.Core.List.{List}
+use mathlib.Core.List.{List, []}
 use mathlib.Core.Path.{_≡_, refl, sym, ap, _∙_}
 use lib.ListN.{length, take, replicate, length-append, length-replicate}
 use lib.Seq.{length-take-le}
@@ -19,9 +19,10 @@ use Rattle.ledger.proofs.Commits.{Kept, kept-self, commit-kept}
 use Rattle.planning.specs.Plan.{Plans, sequence, plans, planRows, planBatch}
 use Rattle.planning.proofs.Few.{plan-room}
 use Rattle.report.specs.Listing.{listing, refusal, together, listed, refused}
-use Rattle.lister.specs.Written.{first, written, answer}
+use Rattle.report.specs.Program.{startNumber, start, plan, stateAfter, shown, told}
+use Rattle.report.specs.declared.program.Input.the-variants.{Bytes, TooLong, Unread}
 use Rattle.claims.specs.Serial.{run}
-use Rattle.claims.specs.Shown.{start, plan, settled, shown}
+use Rattle.claims.specs.Shown.{Whole}
 use Rattle.refusals.proofs.Answers.{value}
 use Rattle.planning.proofs.Opened.{own, plan-open, plan-clear}
 use Rattle.claims.proofs.Running.{onPages}
@@ -52,19 +53,19 @@ good-lengths s t k l h j =
 
 module _ (text input : List ℕ) (s : State) (vs os out ps : List ℕ) (room : 65536 ≤ length text) where
   abbrev p : Plans
-  p = planBatch input s first vs os out
+  p = planBatch input s startNumber vs os out
 
   abbrev then : ℕ → State
-  then k = commitBatch (take (512 * k) (p .out)) s first ps .state
+  then k = commitBatch (take (512 * k) (p .out)) s startNumber ps .state
 
   abbrev made : Plans
   made = plans input (versions s) (sequence (versions s) (txAt input) (pages input)) vs os out
 
   -- a plan that is no refusal came through the gate
-  opened : (k : ℕ) → p .answer ≡ gives k → Through input s first × (p ≡ made)
+  opened : (k : ℕ) → p .answer ≡ gives k → Through input s startNumber × (p ≡ made)
   opened k e =
-      let c = plan-clear input s first vs os out e .0 in
-      (gate-open (own input s first vs os out) input s first c, sym (plan-open input s first vs os out c))
+      let c = plan-clear input s startNumber vs os out e .0 in
+      (gate-open (own input s startNumber vs os out) input s startNumber c, sym (plan-open input s startNumber vs os out c))
 
   long-verdicts : pages input ≤ length (made .verdicts)
   unfolding plans
@@ -81,39 +82,43 @@ module _ (text input : List ℕ) (s : State) (vs os out ps : List ℕ) (room : 6
       let t = o .0 in
       let v : pages input ≤ length (p .verdicts) = rw (o .1) long-verdicts in
       let d : k ≤ length (p .order) = rw (o .1) (long-order k (rw (o .1) at e)) in
-      let few = plan-room input s first vs os out k e in
+      let few = plan-room input s startNumber vs os out k e in
       rw (
         le-leb 65536 (length text) room,
         le-leb (length input) 32768 (omega (arith, t .ready .whole, t .ready .few)),
         le-leb (pages input) (length (p .verdicts)) v,
         le-leb k (length (p .order)) d,
         le-leb k 64 (few .0),
-        good-lengths s (then k) (batch-kept (take (512 * k) (p .out)) s first ps) (t .level) (t .some) (t .few),
+        good-lengths s (then k) (batch-kept (take (512 * k) (p .out)) s startNumber ps) (t .level) (t .some) (t .few),
       )
 
-  whole : (k : ℕ) → p .answer ≡ gives k → answer text input s vs os out ps ≡ listing first input (p .verdicts) (p .order) k (then k)
-  unfolding written listed
-  whole k e = rw (e, written, fits k e)
+  -- what is filled in where k are kept
+  abbrev due : ℕ → List ℕ
+  due k = listed text startNumber input (p .verdicts) (p .order) k (then k)
 
-  none : (number place : ℕ) → p .answer ≡ refuses number place → answer text input s vs os out ps ≡ refusal number place
-  unfolding written refused
-  none number place e = rw (e, written, le-leb 64 (length text) (omega arith))
+  -- it is the whole listing
+  whole : (k : ℕ) → p .answer ≡ gives k → due k ≡ listing startNumber input (p .verdicts) (p .order) k (then k)
+  unfolding listed
+  whole k e = rw (fits k e)
+
+  plan-gives : (k : ℕ) → rowsFirst (planRows input s startNumber vs os out) ≡ clear → made .answer ≡ gives k → p .answer ≡ gives k
+  plan-gives k c a = ap (λ (q : Plans). q .answer) (sym (plan-open input s startNumber vs os out c)) ∙ a
 
   -- where the gate lets the input through, the state that is listed is that of the kept pages' own writes, in the order of the schedule
   whole-run :
-      (k : ℕ) → rowsFirst (planRows input s first vs os out) ≡ clear → made .answer ≡ gives k → k ≤ length ps →
-      answer text input s vs os out ps
-      ≡ listing first input (made .verdicts) (made .order) k
-      (run (txAt input) first 0 (onPages (txAt input)) s (take k (made .order)))
+      (k : ℕ) → rowsFirst (planRows input s startNumber vs os out) ≡ clear → made .answer ≡ gives k → k ≤ length ps →
+      due k
+      ≡ listing startNumber input (made .verdicts) (made .order) k
+      (run (txAt input) startNumber 0 (onPages (txAt input)) s (take k (made .order)))
   whole-run k c a l =
-      let e = sym (plan-open input s first vs os out c) in
-      let t = third input s first (sequence (versions s) (txAt input) (pages input)) vs os out k (sequence-perm (versions s) (txAt input) (pages input)) c a in
+      let e = sym (plan-open input s startNumber vs os out c) in
+      let t = third input s startNumber (sequence (versions s) (txAt input) (pages input)) vs os out k (sequence-perm (versions s) (txAt input) (pages input)) c a in
       let h : length (take k (made .order)) ≡ k = length-take-le k (made .order) (long-order k a) in
-      whole k (ap (λ (q : Plans). q .answer) e ∙ a)
-      ∙ ap (λ (q : Plans). listing first input (q .verdicts) (q .order) k (commitBatch (take (512 * k) (q .out)) s first ps .state)) e
-      ∙ ap (λ (o : List ℕ). listing first input (made .verdicts) (made .order) k (commitBatch o s first ps .state))
+      whole k (plan-gives k c a)
+      ∙ ap (λ (q : Plans). listing startNumber input (q .verdicts) (q .order) k (commitBatch (take (512 * k) (q .out)) s startNumber ps .state)) e
+      ∙ ap (λ (o : List ℕ). listing startNumber input (made .verdicts) (made .order) k (commitBatch o s startNumber ps .state))
       (t .out-pages)
-      ∙ ap (λ (q : Commits). listing first input (made .verdicts) (made .order) k (q .state))
+      ∙ ap (λ (q : Commits). listing startNumber input (made .verdicts) (made .order) k (q .state))
       (t .third .commits (onPages (txAt input)) (λ i m. refl) ps (omega arith))
 
 -- ---- the program
@@ -122,28 +127,52 @@ module _ (text input : List ℕ) (s : State) (vs os out ps : List ℕ) (room : 6
 pub long : (n a : ℕ) → n ≤ length (replicate n a)
 long n a = rw (length-replicate n a) (omega arith)
 
+-- what is written, by plan's answer
+shown-gives : (text input : List ℕ) (s : State) (k : ℕ) → plan input s .answer ≡ gives k
+    → shown input s text ≡ listed text startNumber input (plan input s .verdicts) (plan input s .order) k (stateAfter input s k)
+unfolding shown
+shown-gives text input s k e = rw (e, shown)
+
+shown-refuses : (text input : List ℕ) (s : State) (number place : ℕ) → plan input s .answer ≡ refuses number place
+    → shown input s text ≡ refused text number place
+unfolding shown
+shown-refuses text input s number place e = rw (e, shown)
+
+-- the line of a refusal has room
+line : (text : List ℕ) (number place : ℕ) → 65536 ≤ length text → refused text number place ≡ refusal number place
+unfolding refused
+line text number place h = rw (le-leb 64 (length text) (omega arith))
+
 -- For every input the whole listing is written, or the refusal's line: nothing is ever left out or cut.
-pub shown-all :
-    (input : List ℕ) →
-    ((k : ℕ) → plan input .answer ≡ gives k → shown input ≡ listing first input (plan input .verdicts) (plan input .order) k (settled input k))
-    × ((number place : ℕ) → plan input .answer ≡ refuses number place → shown input ≡ refusal number place)
-unfolding shown plan settled
+pub shown-all : (input : List ℕ) → Whole input (shown input start (replicate 65536 0))
+unfolding plan stateAfter
 shown-all input = (
-  whole (replicate 65536 0) input start (replicate 64 0) (replicate 64 0) (replicate 32768 0) (replicate 64 0) (long 65536 0),
-  none (replicate 65536 0) input start (replicate 64 0) (replicate 64 0) (replicate 32768 0) (replicate 64 0) (long 65536 0),
+  λ k e. shown-gives (replicate 65536 0) input start k e
+      ∙ whole (replicate 65536 0) input start (replicate 64 0) (replicate 64 0) (replicate 32768 0) (replicate 64 0) (long 65536 0) k e,
+  λ number place e. shown-refuses (replicate 65536 0) input start number place e ∙ line (replicate 65536 0) number place (long 65536 0),
 )
+
+-- And for whatever is read: the bytes are listed or refused so, "input beyond 32768 bytes gives 11", a read that failed gives nothing.
+pub told-all :
+    (page : List ℕ) →
+    ((n : ℕ) → Whole (take n page) (told (Bytes n) page start (replicate 65536 0)))
+    × (told TooLong page start (replicate 65536 0) ≡ refusal 11 0)
+    × (told Unread page start (replicate 65536 0) ≡ [])
+told-all page = (λ n. shown-all (take n page), line (replicate 65536 0) 11 0 (long 65536 0), refl)
 
 -- where the gate lets the input through: what plan leaves, and the state after the writes of the kept pages
 abbrev pub clearPlan : List ℕ → Plans
 clearPlan input = plans input (versions start) (sequence (versions start) (txAt input) (pages input)) (replicate 64 0) (replicate 64 0) (replicate 32768 0)
 
 pub shown-run :
-    (input : List ℕ) (k : ℕ) → rowsFirst (planRows input start first (replicate 64 0) (replicate 64 0) (replicate 32768 0)) ≡ clear →
+    (input : List ℕ) (k : ℕ) → rowsFirst (planRows input start startNumber (replicate 64 0) (replicate 64 0) (replicate 32768 0)) ≡ clear →
     clearPlan input .answer ≡ gives k → k ≤ 64 →
-    shown input
-    ≡ listing first input (clearPlan input .verdicts) (clearPlan input .order) k
-    (run (txAt input) first 0 (onPages (txAt input)) start (take k (clearPlan input .order)))
-unfolding shown
+    shown input start (replicate 65536 0)
+    ≡ listing startNumber input (clearPlan input .verdicts) (clearPlan input .order) k
+    (run (txAt input) startNumber 0 (onPages (txAt input)) start (take k (clearPlan input .order)))
+unfolding plan stateAfter
 shown-run input k c a h =
-    whole-run (replicate 65536 0) input start (replicate 64 0) (replicate 64 0) (replicate 32768 0) (replicate 64 0) (long 65536 0) k c a
+    let text : List ℕ = replicate 65536 0 in
+    shown-gives text input start k (plan-gives text input start (replicate 64 0) (replicate 64 0) (replicate 32768 0) (replicate 64 0) (long 65536 0) k c a)
+    ∙ whole-run text input start (replicate 64 0) (replicate 64 0) (replicate 32768 0) (replicate 64 0) (long 65536 0) k c a
     (rw (length-replicate {A = ℕ} 64 0) h)

@@ -5,7 +5,7 @@ use native.Mathlib.Omega.{arith}
 use mathlib.Core.Bool.{Bool}
 use mathlib.Core.List.{List, [], _∷_, _++_, append-nil}
 use mathlib.Core.Path.{_≡_, refl, sym, ap, _∙_}
-use lib.ListN.{length, getD, take}
+use lib.ListN.{length, getD, take, replicate}
 use lib.Dec.{T, not-T, ltb, ltb→lt}
 use Rattle.refusals.specs.Outcome.{gives}
 use Rattle.refusals.specs.Fault.{clear, rowsFrom}
@@ -28,10 +28,10 @@ use Rattle.orders.specs.Admission.{admit}
 use Rattle.orders.specs.Arrange.{lowest as lowestTicket, without, arrange, byTicket, free, schedule}
 use Rattle.planning.specs.Plan.{before, sequence, kept, verdict, order, plans}
 use Rattle.report.specs.Listing.{header, placed, pageLine, stateLine, keyLine, listing}
-use Rattle.lister.specs.Written.{first}
+use Rattle.report.specs.Program.{startNumber, start, shown}
 use Rattle.claims.specs.Cases.{batchOf}
 use Rattle.claims.specs.Serial.{run}
-use Rattle.claims.specs.Shown.{start, shown, five, correction, nineLines, letterLines}
+use Rattle.claims.specs.Shown.{five, correction, nineLines, letterLines}
 use Rattle.planning.proofs.Words.{writes-key}
 use Rattle.claims.proofs.Running.{onPages, run-other}
 use Rattle.claims.proofs.Shown.{clearPlan, shown-run}
@@ -76,12 +76,12 @@ no-line s k e = rw e
 
 module _ (input : List ℕ) (k : ℕ) where
   abbrev after : State
-  after = ran input first 0 start (take k (clearPlan input .order))
+  after = ran input startNumber 0 start (take k (clearPlan input .order))
 
   -- the header, the lines of the pages, and those of the m lowest keys
   abbrev ahead : List ℕ → List ℕ
   ahead l =
-      header first (pages input) k
+      header startNumber (pages input) k
       ++ (flat (pages input) (λ i. pageLine (txAt input i .ticket) (getD (clearPlan input .verdicts) i 0) (placed (clearPlan input .order) k i)) ++ l)
 
   abbrev lines : ℕ → List ℕ
@@ -90,15 +90,15 @@ module _ (input : List ℕ) (k : ℕ) where
   -- that is all, where no higher key is written
   shown-few :
       (m r : ℕ) → m + r ≡ 1024 → shut input ≡ clear → clearPlan input .answer ≡ gives k → k ≤ 64 →
-      T (allLow input first m (take k (clearPlan input .order))) → shown input ≡ lines m
+      T (allLow input startNumber m (take k (clearPlan input .order))) → shown input start (replicate 65536 0) ≡ lines m
   unfolding listing
   shown-few m r e c a few t =
-      let n : keys after ≡ m + r = run-kept input first 0 start (take k (clearPlan input .order)) .blocks ∙ start-keys ∙ sym e in
+      let n : keys after ≡ m + r = run-kept input startNumber 0 start (take k (clearPlan input .order)) .blocks ∙ start-keys ∙ sym e in
       shown-run input k c a few
       ∙ ap ahead
       (ap (λ (j : ℕ). flat j (keyLine after)) n
       ∙ flat-rest (keyLine after) m r
-      (λ j h l. no-line after j (run-low input first 0 m start (take k (clearPlan input .order)) j t h ∙ start-absent j (omega arith))))
+      (λ j h l. no-line after j (run-low input startNumber 0 m start (take k (clearPlan input .order)) j t h ∙ start-absent j (omega arith))))
 
 -- ---- the worked inputs
 
@@ -107,10 +107,10 @@ record Sheet (xs : List Tx) (k : ℕ) (text : List ℕ) : Type 0 where
   sound : T (all good xs)
   clean : later (batchOf xs) ≡ clear
   count : clearPlan (batchOf xs) .answer ≡ gives k
-  below : T (allLow (batchOf xs) first 10 (take k (clearPlan (batchOf xs) .order)))
+  below : T (allLow (batchOf xs) startNumber 10 (take k (clearPlan (batchOf xs) .order)))
   reads : lines (batchOf xs) k 10 ≡ text
 
-from-sheet : (xs : List Tx) (k : ℕ) (text : List ℕ) → length xs ≤ 64 → k ≤ 64 → Sheet xs k text → shown (batchOf xs) ≡ text
+from-sheet : (xs : List Tx) (k : ℕ) (text : List ℕ) → length xs ≤ 64 → k ≤ 64 → Sheet xs k text → shown (batchOf xs) start (replicate 65536 0) ≡ text
 from-sheet xs k text h l s = shown-few (batchOf xs) k 10 1014 refl (open-gate xs (s .sound) h (s .clean)) (s .count) l (s .below) ∙ s .reads
 
 sheets : Sheet five 3 nineLines × Sheet correction 2 letterLines
@@ -123,9 +123,9 @@ sheets = (
 )
 
 -- document 01's five pages: the whole output
-pub nine-lines : shown (batchOf five) ≡ nineLines
+pub nine-lines : shown (batchOf five) start (replicate 65536 0) ≡ nineLines
 nine-lines = from-sheet five 3 nineLines (omega arith) (omega arith) (sheets .0)
 
 -- the customer's letter: the correction is kept and shown
-pub letter : shown (batchOf correction) ≡ letterLines
+pub letter : shown (batchOf correction) start (replicate 65536 0) ≡ letterLines
 letter = from-sheet correction 2 letterLines (omega arith) (omega arith) (sheets .1)

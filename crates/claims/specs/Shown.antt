@@ -1,32 +1,21 @@
--- Document 01, 'The listing': what the program writes, its state and its buffers as it makes them; and two inputs. Assumes nothing.
-use Prim.Native.Nat.{ℕ, _*_}
+-- Document 01, 'The listing': when a text is whole; and two inputs with their listings. Assumes nothing.
+use Prim.Native.Nat.{ℕ}
+use mathlib.Core.Path.{_≡_}
 use mathlib.Core.List.{List, [], _∷_}
-use lib.ListN.{take, replicate}
-use lib.IntN.{pos, negsuc}
+use lib.IntN.{negsuc}
+use Rattle.refusals.specs.Outcome.{gives, refuses}
 use Rattle.lists.specs.Ascii.{ascii}
 use Rattle.ledger.specs.Version.{at}
 use Rattle.ledger.specs.Tx.{Tx}
-use Rattle.ledger.specs.State.{State, stateOf}
-use Rattle.ledger.specs.Commit.{commitBatch}
-use Rattle.planning.specs.Plan.{Plans, planBatch}
-use Rattle.lister.specs.Written.{first, answer}
+use Rattle.report.specs.Listing.{listing, refusal}
+use Rattle.report.specs.Program.{startNumber, start, plan, stateAfter}
 use Rattle.claims.specs.Cases.{tx, none, put}
 
--- "begins with 1024 absent keys"
-unfoldable pub start : State
-start = stateOf (replicate 1024 0) (replicate 1024 65535) (replicate 1024 (pos 0))
-
--- "and n 1, plans": what plan leaves in the lists that the program lends it
-unfoldable pub plan : List ℕ → Plans
-plan input = planBatch input start first (replicate 64 0) (replicate 64 0) (replicate 32768 0)
-
--- "commits the out batch": the state after the first k pages of it
-unfoldable pub settled : List ℕ → ℕ → State
-settled input k = commitBatch (take (512 * k) (plan input .out)) start first (replicate 64 0) .state
-
--- "and writes": the text for an input that the page buffer holds
-unfoldable pub shown : List ℕ → List ℕ
-shown input = answer (replicate 65536 0) input start (replicate 64 0) (replicate 64 0) (replicate 32768 0) (replicate 64 0)
+-- a text for an input is the whole listing, or the refusal's line
+abbrev pub Whole : List ℕ → List ℕ → Type 0
+Whole input text =
+    ((k : ℕ) → plan input start .answer ≡ gives k → text ≡ listing startNumber input (plan input start .verdicts) (plan input start .order) k (stateAfter input start k))
+    × ((number place : ℕ) → plan input start .answer ≡ refuses number place → text ≡ refusal number place)
 
 -- "Five pages: ticket 10 puts 68400 on 5; 20 reads 5 absent, puts 100 on 6; 30 reads 6 absent, puts -50 on 7; 40 reads 7 absent, puts 1 on 5;
 -- 50 reads 8 as block 0 place 0."

@@ -1,3 +1,4 @@
 pub mod Puts
 pub mod Parts
 pub mod Texts
+pub mod Told

@@ -1,5 +1,6 @@
 // The listing's text, filled into a lent buffer.
 mod lines;
+pub mod program;
 mod put;
 
 use ledger::layout;

@@ -2,8 +2,8 @@
 use mathlib.Core.Path.{sym}
 use lib.Seq.{length-take-le}
 use borrow.Author.Needs.{needs}
-use Rattle.lister.proofs.show.Statement.{statement}
-use Rattle.lister.proofs.show.Tie as tie
+use Rattle.listing.proofs.show.Statement.{statement}
+use Rattle.listing.proofs.show.Tie as tie
 
 slice-aggregate-write-all : tie.Need-slice-aggregate-write-all
 slice-aggregate-write-all c = sym (length-take-le _ _ (c .before .before .pre))

@@ -3,8 +3,9 @@ use Prim.Native.Nat.{_-_, _≤_}
 use mathlib.Core.Path.{_≡_}
 use lib.ListN.{length}
 use borrow.Author.Needs.{needs}
-use Rattle.lister.proofs.stdin.read_input.Statement.{statement}
-use Rattle.lister.proofs.stdin.read_input.Tie as tie
+use Rattle.report.proofs.Told.{within-more}
+use Rattle.listing.proofs.stdin.read_input.Statement.{statement}
+use Rattle.listing.proofs.stdin.read_input.Tie as tie
 
 abbrev Inv-loop : tie.InvT-loop
 Inv-loop buffer₀ at₀ buffer at = (length buffer ≡ length buffer₀) × (at ≤ length buffer)
@@ -67,7 +68,7 @@ same-length-3 : tie.Need-same-length-3 Inv-loop μ-loop
 same-length-3 c = search needs
 
 returns-3 : tie.Need-returns-3 Inv-loop μ-loop
-returns-3 c = search needs
+returns-3 c = within-more (c .when-full .result) _ _ (c .before .before .loop .inv .1) (c .when-full .ensures)
 
 pub read-input-spec : {M : Type 1} → statement M
 read-input-spec =

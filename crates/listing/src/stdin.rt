@@ -1,18 +1,11 @@
 // Standard input, read to its end.
-ghost use Prim.Native.Nat.{_≤_};
+use report::program::Input;
 ghost use lib.ListN.{length};
-ghost use Rattle.lister.specs.Written.{counted};
-
-// What is read: so many bytes, more than the buffer holds, or a read that failed.
-pub enum Input {
-    Bytes { count: usize },
-    TooLong,
-    Unread,
-}
+ghost use Rattle.report.specs.Program.{Within};
 
 // What is read where the buffer is full: one read more tells.
 fn when_full(count: usize) -> Input
-    ensures { λ r. ⌜ counted r ≤ count ⌝ }
+    ensures { λ r. ⌜ Within r count ⌝ }
 {
     let mut one = [0u8; 1];
     let got = libc::read(libc::STDIN_FILENO, &mut one);
@@ -27,7 +20,7 @@ fn when_full(count: usize) -> Input
 
 // Reads standard input into a buffer, and says how many bytes there are.
 pub fn read_input(buffer: &mut [u8]) -> Input
-    ensures { λ r. ⌜ counted r ≤ length (now (buffer .exit)) ⌝ }
+    ensures { λ r. ⌜ Within r (length (now (buffer .exit))) ⌝ }
 {
     let mut at = 0;
     while at < buffer.len() {

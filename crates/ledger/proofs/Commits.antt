@@ -1,14 +1,16 @@
 -- Laws of the version check and of commit. Assumes nothing.
 use mathlib.Core.Path.{_≡_, refl, sym, ap, _∙_}
-use mathlib.Core.Bool.{Bool, true, false, not}
+use mathlib.Core.Bool.{Bool, true, false, not, _||_, _&&_}
 use mathlib.Core.List.{List, [], _∷_, _++_}
 use Prim.Native.Nat.{ℕ, suc, _+_, _≤_, _<_}
 use native.Mathlib.Nat.{add-zero, add-suc, suc-add, zero-add}
 use native.Mathlib.Numerals.{add-one}
 use native.Mathlib.Omega.{arith}
-use lib.ListN.{length, set, take, drop, length-append, length-drop, length-set}
+use lib.ListN.{length, getD, set, take, drop, length-append, length-drop, length-set}
 use lib.Seq.{take-suc, take-all, drop-cons, set-at, append-snoc}
 use lib.Dec.{eqb, ltb}
+use lib.IntN.{pos}
+use borrow.Author.Tests.{ne-eqb, not-false}
 use Rattle.lists.specs.Choice.{pick}
 use Rattle.lists.specs.Search.{firstIn}
 use Rattle.lists.proofs.Searches.{within, all-search}
@@ -21,12 +23,14 @@ use Rattle.ledger.specs.declared.Write.{Write}
 use Rattle.ledger.specs.declared.Entry.{Entry}
 use Rattle.ledger.specs.declared.Stamp.{Stamp}
 use Rattle.lists.specs.Tables.{tab}
-use Rattle.ledger.specs.Tx.{Tx, noRead, readOf, writeOf, noWrite}
-use Rattle.ledger.specs.Page.{pageAt, pageTx}
+use Rattle.ledger.specs.Tx.{Tx, noRead, readOf, writeOf, noWrite, wrongKind}
 use Rattle.ledger.specs.State.{State, Level, keys, versions, store}
-use Rattle.ledger.specs.Gate.{pages, txAt, txs, lentRow, gateFault}
+use Rattle.ledger.specs.Gate.{pages, txAt, txs, txsIn, lentRow, gateFault}
 use Rattle.ledger.specs.Commit.{names, passes, stamp, left, write, afterPage, verdict, commit, verdicts, passed, Commitment, commitBatch}
-use Rattle.lists.proofs.Tables.{length-tab}
+use Rattle.lists.proofs.Tables.{length-tab, tab-same}
+use Rattle.ledger.specs.Value.{isZero}
+use Rattle.ledger.proofs.Faults.{and-both}
+use Rattle.ledger.proofs.Zero.{zero-is}
 
 -- ---- one more at the end
 
@@ -113,6 +117,14 @@ passes-search held x n stop count found =
     (eqb-not _ _ (within (λ i. not (names held (readOf (x .reads) i))) 0 (length (x .reads)) (omega arith))
     ∙ sym (all-search (names held) noRead (x .reads)))
 
+-- ---- what a write leaves
+
+-- a good write that is no put has value 0
+pub delete-zero : (x : Write) → wrongKind x ≡ false → (x .kind ≡ 0 → ⊥) → x .value ≡ pos 0
+delete-zero x good other =
+    let either = not-false (eqb (x .kind) 0 || (eqb (x .kind) 1 && isZero (x .value))) good in
+    zero-is (x .value) (and-both (eqb (x .kind) 1) (isZero (x .value)) (rw (ne-eqb (x .kind) 0 other) at either) .1)
+
 -- ---- the writes of a page in turn
 
 -- j of the writes are made
@@ -149,13 +161,13 @@ module _ (n i : ℕ) (s : State) (x : Tx) where
   unfolding afterPage
   page-passes t e f = f ∙ rw e
 
--- ---- the pages of a batch in turn
+-- ---- transactions in turn, told by their place
 
-module _ (batch : List ℕ) (s : State) (n : ℕ) (vs : List ℕ) where
+module _ (tx : ℕ → Tx) (s : State) (n : ℕ) (vs : List ℕ) where
   abbrev pub first : ℕ → List Tx
-  first i = tab i (txAt batch)
+  first i = tab i tx
 
-  -- i pages are committed: the state, the verdicts and the count of those that passed
+  -- i of them are committed: the state, the verdicts and the count of those that passed
   pub record Committing (i count : ℕ) (t : State) (ws : List ℕ) : Type 0 where
     pub state-is : t ≡ commit n 0 s (first i)
     pub verdicts-are : ws ≡ verdicts n 0 s (first i) ++ drop i vs
@@ -166,16 +178,16 @@ module _ (batch : List ℕ) (s : State) (n : ℕ) (vs : List ℕ) where
   committing-begins = record { state-is = refl; verdicts-are = refl; count-is = refl }
 
   many : (i : ℕ) → length (verdicts n 0 s (first i)) ≡ i
-  many i = verdicts-length n 0 s (first i) ∙ length-tab (txAt batch) i
+  many i = verdicts-length n 0 s (first i) ∙ length-tab tx i
 
-  next : (i : ℕ) → first (i + 1) ≡ first i ++ (txAt batch i ∷ [])
+  next : (i : ℕ) → first (i + 1) ≡ first i ++ (tx i ∷ [])
   unfolding tab
   next i = rw add-one
 
-  next-commit : (i : ℕ) → commit n 0 s (first (i + 1)) ≡ afterPage n i (commit n 0 s (first i)) (txAt batch i)
+  next-commit : (i : ℕ) → commit n 0 s (first (i + 1)) ≡ afterPage n i (commit n 0 s (first i)) (tx i)
   next-commit i = rw (next i, commit-last, length-tab, zero-add)
 
-  next-verdicts : (i : ℕ) → verdicts n 0 s (first (i + 1)) ≡ verdicts n 0 s (first i) ++ (verdict (commit n 0 s (first i)) (txAt batch i) ∷ [])
+  next-verdicts : (i : ℕ) → verdicts n 0 s (first (i + 1)) ≡ verdicts n 0 s (first i) ++ (verdict (commit n 0 s (first i)) (tx i) ∷ [])
   next-verdicts i = rw (next i, verdicts-last)
 
   module _ (i count : ℕ) (t : State) (ws : List ℕ) (c : Committing i count t ws) where
@@ -190,34 +202,42 @@ module _ (batch : List ℕ) (s : State) (n : ℕ) (vs : List ℕ) where
         rw (c .verdicts-are, drop-cons vs i 0 h, set-at (verdicts n 0 s (first i)) _ _ v i (many i), add-one)
         (sym (append-snoc (verdicts n 0 s (first i)) v (drop (suc i) vs)))
 
-    -- p is page i, b says whether it passes
-    pub committing-turns : (p : List ℕ) (b : Bool) (more : ℕ) (u : State) (new : List ℕ) → i < length vs → p ≡ pageAt batch i
-        → b ≡ passes (versions t) (pageTx p)
-        → u ≡ afterPage n i t (pageTx p)
+    -- x is the one at place i, b says whether it passes
+    pub committing-turns : (x : Tx) (b : Bool) (more : ℕ) (u : State) (new : List ℕ) → i < length vs → x ≡ tx i
+        → b ≡ passes (versions t) x
+        → u ≡ afterPage n i t x
         → more ≡ count + pick b 1 0
         → new ≡ set ws i (pick b 0 3)
         → Committing (i + 1) more u new
-    committing-turns p b more u new h is e f g q =
-        let v : _≡_ {A = ℕ} (pick b 0 3) (verdict (commit n 0 s (first i)) (txAt batch i)) = ap (λ x. pick x 0 3) (rw is at e) ∙ ap (λ r. verdict r (txAt batch i)) (c .state-is) in
+    committing-turns x b more u new h is e f g q =
+        let v : _≡_ {A = ℕ} (pick b 0 3) (verdict (commit n 0 s (first i)) (tx i)) = ap (λ y. pick y 0 3) (rw is at e) ∙ ap (λ r. verdict r (tx i)) (c .state-is) in
         record {
-          state-is = rw is at f ∙ ap (λ r. afterPage n i r (txAt batch i)) (c .state-is) ∙ sym (next-commit i);
+          state-is = rw is at f ∙ ap (λ r. afterPage n i r (tx i)) (c .state-is) ∙ sym (next-commit i);
           verdicts-are = q ∙ stored (pick b 0 3) h ∙ rw (next-verdicts i, ← v);
-          count-is = g ∙ rw (next-verdicts i, ← v, passed-last, ← c .count-is) (ap (λ x. count + x) (go b));
+          count-is = g ∙ rw (next-verdicts i, ← v, passed-last, ← c .count-is) (ap (λ y. count + y) (go b));
         }
       where
         go : (b : Bool) → _≡_ {A = ℕ} (pick b 1 0) (pick (eqb 0 (pick b 0 3)) 1 0)
         go true = refl
         go false = refl
 
-    pub committing-ends : i ≡ pages batch → Commitment batch s n vs count t ws
-    unfolding txs
-    committing-ends e = record {
-      count-is = rw e at (c .count-is);
-      state-is = rw e at (c .state-is);
-      verdicts-are = rw e at (c .verdicts-are);
-    }
+    pub committing-ends : (k : ℕ) → i ≡ k → Commitment (first k) s n vs count t ws
+    committing-ends k e = rw (← e) (record {
+      count-is = c .count-is;
+      state-is = c .state-is;
+      verdicts-are = rw (length-tab tx i) (c .verdicts-are);
+    })
 
 -- ---- a batch
+
+pub count-txs : (batch : List ℕ) → length (txs batch) ≡ pages batch
+unfolding txs
+count-txs batch = length-tab (txAt batch) (pages batch)
+
+-- an order that names each page at its own place gives the batch
+pub in-turn-txs : (batch order : List ℕ) → ((i : ℕ) → i < pages batch → getD order i 0 ≡ i) → txsIn batch order (pages batch) ≡ txs batch
+unfolding txs txsIn
+in-turn-txs batch order h = tab-same _ (txAt batch) (pages batch) (λ i l. ap (txAt batch) (h i l))
 
 module _ (batch : List ℕ) (s : State) (n : ℕ) (vs : List ℕ) where
   -- the rows of commit's own
@@ -229,10 +249,10 @@ module _ (batch : List ℕ) (s : State) (n : ℕ) (vs : List ℕ) where
   unfolding commitBatch
   commit-refused h e = rw (h, e)
 
-  pub commit-taken : {count : ℕ} {t : State} {ws : List ℕ} → gateFault own batch s n ≡ clear → Commitment batch s n vs count t ws
+  pub commit-taken : {count : ℕ} {t : State} {ws : List ℕ} → gateFault own batch s n ≡ clear → Commitment (txs batch) s n vs count t ws
       → record { answer = gives count; state = t; verdicts = ws } ≡ commitBatch batch s n vs
   unfolding commitBatch
-  commit-taken e c = rw (e, c .count-is, c .state-is, c .verdicts-are)
+  commit-taken e c = rw (e, c .count-is, c .state-is, c .verdicts-are, count-txs batch)
 
   pub commit-open : gateFault own batch s n ≡ clear
       → let new = verdicts n 0 s (txs batch) in

@@ -6,6 +6,7 @@ pub mod Laid
 pub mod Valued
 pub mod Placed
 pub mod Faults
+pub mod Goodness
 pub mod Exact
 pub mod Noticed
 pub mod Back

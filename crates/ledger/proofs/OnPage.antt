@@ -28,6 +28,10 @@ module _ (p : List ℕ) where
   unfolding pageTx
   write-is i h = getD-tab (λ i. writeAt p (8 + 8 * readCount p + 12 * i)) (writeCount p) i noWrite h
 
+  -- by where the writes start
+  pub write-from : (from i : ℕ) → from ≡ 8 + 8 * readCount p → i < writeCount p → writeAt p (from + 12 * i) ≡ writeOf (pageTx p .writes) i
+  write-from from i e h = rw e (sym (write-is i h))
+
   -- the keys where they lie, n of them, and those of the transaction
   pub read-turns : (n : ℕ) → n ≡ length (pageTx p .reads)
       → firstIn (outOfTurn (keyAt p 8 8)) 0 n ≡ firstIn (outOfTurn (λ i. readOf (pageTx p .reads) i .key)) 0 (length (pageTx p .reads))

@@ -11,7 +11,7 @@ use lib.Dec.{ltb}
 use borrow.Author.Tests.{ltb-true, ltb-false, lt-ltb, le-ltb, not-false}
 use Rattle.lists.specs.Search.{someIn}
 use Rattle.lists.proofs.Searches.{missed, none-at, some-at, any-search}
-use Rattle.ledger.specs.Tx.{Tx, noRead, noWrite, readOf, writeOf, floorOf, outOfTurn}
+use Rattle.ledger.specs.Tx.{Tx, noRead, noWrite, readOf, writeOf, floorOf, outOfTurn, wrongKind}
 use Rattle.refusals.specs.Fault.{clear, first}
 use Rattle.refusals.proofs.Rows.{row-none}
 use Rattle.ledger.specs.Page.{entryRows, pageFault, pageTx}
@@ -90,6 +90,10 @@ module _ (p : List ℕ) (good : pageFault p ≡ clear) where
 
   pub write-keys : Rising (writeKey (pageTx p)) (length (pageTx p .writes))
   write-keys = rising _ _ (entered _ (sound p good .entries) .no-eight)
+
+  -- and the kinds of its writes are right
+  pub write-kinds : (i : ℕ) → i < length (pageTx p .writes) → wrongKind (writeOf (pageTx p .writes) i) ≡ false
+  write-kinds = missed (λ i. wrongKind (writeOf (pageTx p .writes) i)) _ (entered _ (sound p good .entries) .no-nine)
 
 -- ---- keys that are not below k
 

@@ -1,15 +1,13 @@
 -- The tickets of the pages of a batch, gathered in turn, and the search among them. Assumes nothing.
 use mathlib.Core.Path.{_≡_, ap₂, _∙_}
 use mathlib.Core.List.{List}
-use mathlib.Core.Logic.{⊎-elim}
 use Prim.Native.Nat.{ℕ, _+_, _≤_, _<_}
-use native.Mathlib.Nat.{eq-or-lt-of-le}
 use native.Mathlib.Omega.{arith}
 use lib.ListN.{length, getD, set, length-set}
-use lib.Seq.{getD-set-same, getD-set-other}
 use lib.Dec.{eqb}
 use Rattle.lists.specs.Search.{firstIn, someIn}
 use Rattle.lists.proofs.Searches.{some-same, first-same}
+use Rattle.lists.proofs.Stores.{front-more}
 use Rattle.ledger.specs.Gate.{txAt, again, TicketsOf}
 
 -- the tickets of the first i pages stand in front
@@ -21,14 +19,10 @@ pub gathering-begins : (batch tickets : List ℕ) → length tickets ≡ 64 → 
 gathering-begins batch tickets e = record { many = e; front = record { each = λ j h. absurd (omega arith) } }
 
 pub gathering-turns : {batch tickets : List ℕ} {i : ℕ} (t : ℕ) → Gathering batch tickets i → i < 64 → t ≡ txAt batch i .ticket → Gathering batch (set tickets i t) (i + 1)
-gathering-turns {batch} {tickets} {i} t g h is = record { many = length-set tickets i t ∙ g .many; front = record { each = kept } }
-  where
-    kept : (j : ℕ) → j < i + 1 → getD (set tickets i t) j 0 ≡ txAt batch j .ticket
-    kept j l =
-        ⊎-elim
-        (λ e. let f : j ≡ i = omega arith in rw (f, getD-set-same tickets i t 0 (omega (arith, g .many)), is))
-        (λ w. getD-set-other tickets i j t 0 (λ e. absurd (omega arith)) ∙ g .front .each j (omega arith))
-        (eq-or-lt-of-le l)
+gathering-turns {batch} {tickets} {i} t g h is = record {
+  many = length-set tickets i t ∙ g .many;
+  front = record { each = front-more (λ j. txAt batch j .ticket) tickets i t (omega (arith, g .many)) is (g .front .each) };
+}
 
 -- a ticket among them stands earlier where it stands on an earlier page
 pub again-is :

@@ -62,11 +62,11 @@ verdicts n i s (x ∷ xs) = verdict s x ∷ verdicts n (suc i) (afterPage n i s 
 unfoldable pub passed : List ℕ → ℕ
 passed vs = length (those (eqb 0) vs)
 
--- what committing the pages of a batch leaves: the count of those that pass, the state, and the verdicts in front of the lent ones
-pub record Commitment (batch : List ℕ) (s : State) (n : ℕ) (vs : List ℕ) (count : ℕ) (new : State) (filled : List ℕ) : Type 0 where
-  pub count-is : count ≡ passed (verdicts n 0 s (txs batch))
-  pub state-is : new ≡ commit n 0 s (txs batch)
-  pub verdicts-are : filled ≡ verdicts n 0 s (txs batch) ++ drop (pages batch) vs
+-- what committing transactions in turn leaves: the count of those that pass, the state, and the verdicts in front of the lent ones
+pub record Commitment (xs : List Tx) (s : State) (n : ℕ) (vs : List ℕ) (count : ℕ) (new : State) (filled : List ℕ) : Type 0 where
+  pub count-is : count ≡ passed (verdicts n 0 s xs)
+  pub state-is : new ≡ commit n 0 s xs
+  pub verdicts-are : filled ≡ verdicts n 0 s xs ++ drop (length xs) vs
 
 -- ---- the service
 

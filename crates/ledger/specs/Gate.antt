@@ -23,6 +23,10 @@ txAt batch i = pageTx (pageAt batch i)
 unfoldable pub txs : List ℕ → List Tx
 txs batch = tab (pages batch) (txAt batch)
 
+-- the transactions on the pages that the first k entries of an order name, in its order
+unfoldable pub txsIn : List ℕ → List ℕ → ℕ → List Tx
+txsIn batch order k = tab k (λ i. txAt batch (getD order i 0))
+
 -- "15: ticket already on an earlier page"
 abbrev pub again : List ℕ → ℕ → Bool
 again batch i = someIn (λ j. eqb (txAt batch j .ticket) (txAt batch i .ticket)) 0 i

@@ -2,6 +2,7 @@ pub mod Value
 pub mod Version
 pub mod Tx
 pub mod Page
+pub mod Good
 pub mod Services
 pub mod State
 pub mod Gate

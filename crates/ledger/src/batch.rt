@@ -74,19 +74,18 @@ pub fn tickets(batch: &[u8], m: usize) -> [u32; layout::MOST_PAGES]
     all
 }
 
-// The first of `n` tickets that is `ticket`; `n` where none is.
-fn find(tickets: &[u32; layout::MOST_PAGES], n: usize, ticket: u32) -> usize
+// Whether one of the first `n` tickets is `ticket`. All are compared, and none ends the loop, so it is vector code.
+fn among(tickets: &[u32; layout::MOST_PAGES], n: usize, ticket: u32) -> bool
     requires { ⌜ n ≤ 64 ⌝ }
-    ensures { λ r. ⌜ r ≡ firstIn (λ j. eqb (getD (now (tickets .entry)) j 0) ticket) 0 n ⌝ }
+    ensures { λ r. ⌜ r ≡ someIn (λ j. eqb (getD (now (tickets .entry)) j 0) ticket) 0 n ⌝ }
 {
+    let mut found = false;
     let mut j = 0;
     while j < n {
-        if tickets[j] == ticket {
-            return j;
-        }
+        found = found | (tickets[j] == ticket);
         j += 1;
     }
-    n
+    found
 }
 
 // 15: the first of `m` tickets that stands earlier too; `m` where none does.
@@ -99,7 +98,7 @@ fn first_again(tickets: &[u32; layout::MOST_PAGES], m: usize) -> usize
 {
     let mut i = 0;
     while i < m {
-        if find(tickets, i, tickets[i]) < i {
+        if among(tickets, i, tickets[i]) {
             return i;
         }
         i += 1;

@@ -11,14 +11,14 @@ use crate::state;
 use refusals::Answer;
 use refusals::Finding;
 ghost use mathlib.Core.Path.{_≡_};
-ghost use mathlib.Core.Bool.{not};
-ghost use Prim.Native.Nat.{_≤_, _<_};
-ghost use lib.ListN.{length};
+ghost use mathlib.Core.Bool.{false, not};
+ghost use Prim.Native.Nat.{ℕ, _≤_, _<_};
+ghost use lib.ListN.{length, getD};
 ghost use Rattle.lists.specs.Search.{firstIn};
 ghost use Rattle.ledger.specs.Page.{pageTx};
-ghost use Rattle.ledger.specs.Tx.{readOf};
+ghost use Rattle.ledger.specs.Tx.{readOf, wrongKind};
 ghost use Rattle.ledger.specs.State.{stateOf, versionsIn, Level};
-ghost use Rattle.ledger.specs.Gate.{Ready, Batch};
+ghost use Rattle.ledger.specs.Gate.{pages, txsIn, Ready, Batch};
 ghost use Rattle.ledger.specs.Commit.{names, passes, left, write, afterPage, Commitment, committed, commitBatch};
 
 // The verdicts of commit.
@@ -60,8 +60,9 @@ pub fn passes(page: &[u8], blocks: &[u32], places: &[u16]) -> bool
     first_stale(page, blocks, places) == held::reads(page)
 }
 
-// What a write leaves: a put its value under the stamp, a delete an absent key.
+// What a write leaves: a put its value under the stamp, a delete an absent key, whose value is the delete's own, 0.
 fn left(x: Write, stamp: Stamp) -> Entry
+    requires { ⌜ wrongKind x ≡ false ⌝ }
     ensures { λ e. ⌜ e ≡ left stamp x ⌝ }
 {
     if x.kind == rules::PUT {
@@ -71,10 +72,13 @@ fn left(x: Write, stamp: Stamp) -> Entry
             value: x.value,
         };
     }
-    Entry::ABSENT
+    Entry {
+        version: Version::ABSENT,
+        value: x.value,
+    }
 }
 
-// Stores all that a page writes.
+// Stores all that a page writes. Its counts are read once: a store could change them, for all that the compiler knows.
 fn apply(page: &[u8], blocks: &mut [u32], places: &mut [u16], values: &mut [i64], stamp: Stamp)
     requires { ⌜ Ready (length (now blocks)) (now page) ⌝ }
     requires { ⌜ Level (now blocks) (now places) (now values) ⌝ }
@@ -85,9 +89,10 @@ fn apply(page: &[u8], blocks: &mut [u32], places: &mut [u16], values: &mut [i64]
         ) ⌝ }
 {
     let count = held::writes(page);
+    let from = layout::writes_at(held::reads(page));
     let mut j = 0;
     while j < count {
-        let x = held::write(page, j);
+        let x = held::write_at(page, from + layout::WRITE * j);
         state::store(blocks, places, values, x.key as usize, left(x, stamp));
         j += 1;
     }
@@ -124,29 +129,45 @@ fn commit_page(
     true
 }
 
-// Commits the pages in batch order, and gives the number that pass.
-fn commit_pages(
+// The page indexes of a full batch, in batch order.
+fn in_turn() -> [u8; layout::MOST_PAGES]
+    ensures { λ r. ⌜ ((i : ℕ) → i < 64 → getD r i 0 ≡ i) ⌝ }
+{
+    let mut all = [0u8; layout::MOST_PAGES];
+    let mut i = 0;
+    while i < layout::MOST_PAGES {
+        all[i] = i as u8;
+        i += 1;
+    }
+    all
+}
+
+// Commits the pages that the first `k` entries of an order name, in its order, and gives the number that pass.
+pub fn commit_pages(
     batch: &[u8],
+    order: &[u8],
+    k: usize,
     blocks: &mut [u32],
     places: &mut [u16],
     values: &mut [i64],
     n: u32,
     verdicts: &mut [u8],
-    m: usize,
 ) -> usize
-    requires { ⌜ Batch (length (now blocks)) (now batch) m ⌝ }
+    requires { ⌜ Batch (length (now blocks)) (now batch) (pages (now batch)) ⌝ }
     requires { ⌜ Level (now blocks) (now places) (now values) ⌝ }
-    requires { ⌜ m ≤ length (now verdicts) ⌝ }
+    requires { ⌜ (k ≤ 64) × (k ≤ length (now order)) × (k ≤ length (now verdicts)) ⌝ }
+    requires { ⌜ ((i : ℕ) → i < k → getD (now order) i 0 < pages (now batch)) ⌝ }
     ensures { λ r. ⌜ (
         let s = stateOf (now (blocks .entry)) (now (places .entry)) (now (values .entry)) in
         let left = stateOf (now (blocks .exit)) (now (places .exit)) (now (values .exit)) in
-        Commitment (now (batch .entry)) s n (now (verdicts .entry)) r left (now (verdicts .exit))
+        Commitment (txsIn (now (batch .entry)) (now (order .entry)) k) s n (now (verdicts .entry)) r left
+        (now (verdicts .exit))
         ) ⌝ }
 {
     let mut count = 0;
     let mut i = 0;
-    while i < m {
-        let page = layout::page_at(batch, i);
+    while i < k {
+        let page = layout::page_at(batch, order[i] as usize);
         if commit_page(page, blocks, places, values, n, i as u16) {
             verdicts[i] = PASSED;
             count += 1;
@@ -186,6 +207,7 @@ pub fn commit_batch(
     if let Finding::Found { refusal } = found {
         return Answer::Refused { refusal };
     }
-    let count = commit_pages(batch, blocks, places, values, n, verdicts, m);
+    let order = in_turn();
+    let count = commit_pages(batch, &order, m, blocks, places, values, n, verdicts);
     Answer::Count { count }
 }

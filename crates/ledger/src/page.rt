@@ -2,6 +2,7 @@
 pub mod check;
 mod counts;
 mod fill;
+mod good;
 pub mod held;
 pub mod read;
 pub mod write;

@@ -99,9 +99,14 @@ missed-seek bad i (suc k) h j l = go (bad i) refl h (λ q m o. missed-seek bad (
     go false e q ih zero o = rw add-zero e
     go false e q ih (suc m) o = rw (add-suc, ← suc-add) (ih (omega arith) m (omega arith))
 
-pub missed : (bad : ℕ → Bool) (n : ℕ) → someIn bad 0 n ≡ false → (i : ℕ) → i < n → bad i ≡ false
+pub missed-from : (bad : ℕ → Bool) (from to : ℕ) → someIn bad from to ≡ false → (i : ℕ) → from ≤ i → i < to → bad i ≡ false
 unfolding firstIn
-missed bad n e i h = rw zero-add at (missed-seek bad 0 (n - 0) (omega (arith, ltb-false (seek bad 0 (n - 0)) n e)) i (omega arith))
+missed-from bad from to e i l h =
+    let at : from + (i - from) ≡ i = omega arith in
+    rw at at (missed-seek bad from (to - from) (omega (arith, ltb-false (seek bad from (to - from)) to e)) (i - from) (omega arith))
+
+pub missed : (bad : ℕ → Bool) (n : ℕ) → someIn bad 0 n ≡ false → (i : ℕ) → i < n → bad i ≡ false
+missed bad n e i h = missed-from bad 0 n e i (omega arith) h
 
 -- and one that misses at each index finds none
 pub none-at : (bad : ℕ → Bool) (n : ℕ) → ((i : ℕ) → i < n → bad i ≡ false) → someIn bad 0 n ≡ false
@@ -172,6 +177,27 @@ some-first bad n = rw (sub-zero (suc n), sub-zero n) (go (bad 0))
     go : (b : Bool) → ltb (pick b 0 (seek bad 1 n)) (suc n) ≡ (b || ltb (seek (λ i. bad (suc i)) 0 n) n)
     go true = lt-ltb 0 (suc n) (omega arith)
     go false = rw (seek-next bad 0 n, leb·suc-suc)
+
+-- one index more at the end
+pub some-last : (bad : ℕ → Bool) (n : ℕ) → someIn bad 0 (suc n) ≡ (someIn bad 0 n || bad n)
+some-last bad zero =
+    some-first bad 0
+    ∙ ap (λ a. bad 0 || a) (none-at (λ i. bad (suc i)) 0 (λ i h. absurd (omega arith)))
+    ∙ go (bad 0)
+    ∙ ap (λ a. a || bad 0) (sym (none-at bad 0 (λ i h. absurd (omega arith))))
+  where
+    go : (b : Bool) → (b || false) ≡ b
+    go true = refl
+    go false = refl
+some-last bad (suc n) =
+    some-first bad (suc n)
+    ∙ ap (λ a. bad 0 || a) (some-last (λ i. bad (suc i)) n)
+    ∙ go (bad 0) (someIn (λ i. bad (suc i)) 0 n) (bad (suc n))
+    ∙ ap (λ a. a || bad (suc n)) (sym (some-first bad n))
+  where
+    go : (a b c : Bool) → (a || (b || c)) ≡ ((a || b) || c)
+    go true b c = refl
+    go false b c = refl
 
 module _ {A : Type 0} (p : A → Bool) (d : A) where
   pub any-search : (xs : List A) → any p xs ≡ someIn (λ i. p (getD xs i d)) 0 (length xs)

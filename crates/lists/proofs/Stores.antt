@@ -2,11 +2,12 @@
 use mathlib.Core.Path.{_≡_, refl, ap, ap₂, _∙_}
 use mathlib.Core.List.{List, [], _∷_, _++_, append-assoc, append-nil}
 use Prim.Native.Nat.{ℕ, suc, _+_, _≤_, _<_}
-use native.Mathlib.Nat.{add-zero, add-suc, suc-add}
+use mathlib.Core.Logic.{⊎-elim}
+use native.Mathlib.Nat.{add-zero, add-suc, suc-add, eq-or-lt-of-le}
 use native.Mathlib.Numerals.{add-one}
 use native.Mathlib.Omega.{arith}
 use lib.ListN.{length, getD, set, take, drop, length-append, length-take, length-drop}
-use lib.Seq.{sets, set-comm, set-at, take-suc, take-length, drop-cons, drop-length, length-take-le}
+use lib.Seq.{sets, set-comm, set-at, getD-set-same, getD-set-other, take-suc, take-length, drop-cons, drop-length, length-take-le}
 
 -- two runs, the second where the first ends
 pub sets-append : (l : List ℕ) (i : ℕ) (a b : List ℕ) → sets l i (a ++ b) ≡ sets (sets l i a) (i + length a) b
@@ -17,6 +18,15 @@ sets-append l i (x ∷ a) b = rw (add-suc, ← suc-add) (sets-append (set l i x)
 pub set-after : (l : List ℕ) (i : ℕ) (vs : List ℕ) (j a : ℕ) → i + length vs ≤ j → set (sets l i vs) j a ≡ sets (set l j a) i vs
 set-after l i [] j a h = refl
 set-after l i (v ∷ vs) j a h = rw (set-after (set l i v) (suc i) vs j a (omega arith), set-comm l i j v a (omega arith))
+
+-- the front of a list, told by index, with one store more
+pub front-more : (f : ℕ → ℕ) (l : List ℕ) (i v : ℕ) → i < length l → v ≡ f i → ((j : ℕ) → j < i → getD l j 0 ≡ f j)
+    → (j : ℕ) → j < i + 1 → getD (set l i v) j 0 ≡ f j
+front-more f l i v h is front j less =
+    ⊎-elim
+    (λ e. let at : j ≡ i = omega arith in rw (at, getD-set-same l i v 0 h) is)
+    (λ w. getD-set-other l i j v 0 (λ e. absurd (omega arith)) ∙ front j (omega arith))
+    (eq-or-lt-of-le less)
 
 -- ---- a list copied into another, element by element
 

@@ -122,34 +122,36 @@ weighed-none : (p : List ℕ) → weighed p 0 ≡ 0
 unfolding weighed
 weighed-none p = refl
 
--- the rows from r on are added: the columns weigh them as if row r were the first, the rows before put 48 r to the weight of each byte, and with the bytes of those rows it is the sum of all 10 rows
-pub record Columned (p sums runs : List ℕ) (r : ℕ) : Type 0 where
-  pub in-rows : r ≤ 10
+-- of the first m rows those from r on are added: the columns weigh them as if row r were the first, the rows before put 48 r to the weight of each byte, and with the bytes of those rows it is the sum of all m rows
+pub record Columned (p : List ℕ) (m : ℕ) (sums runs : List ℕ) (r : ℕ) : Type 0 where
+  pub few : m ≤ 10
+  pub in-rows : r ≤ m
   pub sums-long : length sums ≡ 48
   pub runs-long : length runs ≡ 48
   pub sums-low : (c : ℕ) → c < 48 → getD sums c 0 ≤ 255 * (10 - r)
   pub runs-low : (c : ℕ) → c < 48 → getD runs c 0 ≤ 2550 * (10 - r)
-  pub whole : gathered sums runs 48 + r * 48 * summed sums 48 + weighed p (r * 48) ≡ weighed p 480
+  pub whole : gathered sums runs 48 + r * 48 * summed sums 48 + weighed p (r * 48) ≡ weighed p (m * 48)
 
-pub columned-begins : (p : List ℕ) → Columned p (replicate 48 0) (replicate 48 0) 10
+pub columned-begins : (p : List ℕ) (m : ℕ) → m ≤ 10 → Columned p m (replicate 48 0) (replicate 48 0) m
 unfolding gathered summed
-columned-begins p = record {
+columned-begins p m h = record {
+  few = h;
   in-rows = omega arith;
   sums-long = refl;
   runs-long = refl;
-  sums-low = λ c h. omega (arith, getD-replicate {A = ℕ} 48 c 0 0 h);
-  runs-low = λ c h. omega (arith, getD-replicate {A = ℕ} 48 c 0 0 h);
-  whole = omega arith;
+  sums-low = λ c l. omega (arith, getD-replicate {A = ℕ} 48 c 0 0 l);
+  runs-low = λ c l. omega (arith, getD-replicate {A = ℕ} 48 c 0 0 l);
+  whole = rw mul-zero (omega arith);
 }
 
-module _ (p sums runs : List ℕ) (r : ℕ) (k : Columned p sums runs r) where
+module _ (p : List ℕ) (m : ℕ) (sums runs : List ℕ) (r : ℕ) (k : Columned p m sums runs r) where
   pub columned-lanes : Lanes sums runs
   columned-lanes = record {
     sums-lane = λ c h. omega (arith, k .sums-low c h);
     runs-lane = λ c h. omega (arith, k .runs-low c h);
   }
 
-  pub columned-ends : r ≤ 0 → gathered sums runs 48 ≡ weighed p 480
+  pub columned-ends : r ≤ 0 → gathered sums runs 48 ≡ weighed p (m * 48)
   columned-ends h =
       let z : r ≡ 0 = omega arith in
       let e = rw z at (k .whole) in
@@ -157,25 +159,26 @@ module _ (p sums runs : List ℕ) (r : ℕ) (k : Columned p sums runs r) where
 
   -- the row before r
   module _ (some : 0 < r) where
-    pub columned-room : 480 ≤ length p → Room (rowOf p ((r - 1) * 48)) sums runs
+    pub columned-room : m * 48 ≤ length p → Room (rowOf p ((r - 1) * 48)) sums runs
     columned-room h = record {
-      row-long = row-length p ((r - 1) * 48) (omega arith);
+      row-long = row-length p ((r - 1) * 48) (omega (arith, k .in-rows));
       sums-long = k .sums-long;
       runs-long = k .runs-long;
-      sums-fit = λ c l. omega (arith, k .sums-low c l);
-      runs-fit = λ c l. omega (arith, k .sums-low c l, k .runs-low c l);
+      sums-fit = λ c l. omega (arith, k .sums-low c l, k .in-rows, k .few);
+      runs-fit = λ c l. omega (arith, k .sums-low c l, k .runs-low c l, k .in-rows, k .few);
     }
 
-    pub columned-turns : (sums′ runs′ : List ℕ) → Small p → Added (rowOf p ((r - 1) * 48)) sums runs sums′ runs′ → Columned p sums′ runs′ (r - 1)
+    pub columned-turns : (sums′ runs′ : List ℕ) → Small p → Added (rowOf p ((r - 1) * 48)) sums runs sums′ runs′ → Columned p m sums′ runs′ (r - 1)
     columned-turns sums′ runs′ small a =
         let b = (r - 1) * 48 in
         let row = rowOf p b in
         record {
-          in-rows = omega arith;
+          few = k .few;
+          in-rows = omega (arith, k .in-rows);
           sums-long = a .sums-long;
           runs-long = a .runs-long;
-          sums-low = λ c h. omega (arith, a .sums-more c h, k .sums-low c h, row-at p b c h, small (b + c));
-          runs-low = λ c h. omega (arith, a .runs-more c h, k .runs-low c h, k .sums-low c h);
+          sums-low = λ c h. omega (arith, a .sums-more c h, k .sums-low c h, row-at p b c h, small (b + c), k .in-rows, k .few);
+          runs-low = λ c h. omega (arith, a .runs-more c h, k .runs-low c h, k .sums-low c h, k .in-rows, k .few);
           whole =
               let up : r * 48 ≡ b + 48 = omega arith in
               let before = rw up at (k .whole) in

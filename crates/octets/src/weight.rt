@@ -1,8 +1,10 @@
 // The check's sum over a page, by columns: rows of 48 bytes from the last to the first; 16-bit sums are vector code.
 ghost use mathlib.Core.Path.{_≡_};
-ghost use Prim.Native.Nat.{_+_, _≤_};
+ghost use Prim.Native.Nat.{_+_, _*_, _≤_};
 ghost use lib.ListN.{length};
-ghost use Rattle.octets.specs.Bytes.{weighed};
+ghost use mathlib.Core.Bool.{false};
+ghost use Rattle.lists.specs.Search.{someIn};
+ghost use Rattle.octets.specs.Bytes.{weighed, set?};
 ghost use Rattle.octets.specs.Columns.{Lanes, Room, Added, gathered};
 
 // The bytes of a row, the whole rows before the check, and where the bytes behind them begin.
@@ -11,6 +13,11 @@ const COLUMNS: usize = 48;
 const ROWS: usize = 10;
 
 const TAIL: usize = ROWS * COLUMNS;
+
+// The rows that are weighed where a page uses no byte behind them: of a small page, and of a page that is half full.
+const SMALL: usize = 1;
+
+const HALF: usize = 5;
 
 // The bytes that are summed: 0 to 507.
 pub const SUMMED: usize = 508;
@@ -61,19 +68,42 @@ fn tail(p: &[u8]) -> u32
     sum
 }
 
-// The sum over the bytes before the check of (offset + 1) times the byte.
-pub fn weigh(p: &[u8]) -> u32
-    requires { ⌜ 508 ≤ length (now p) ⌝ }
-    ensures { λ r. ⌜ r ≡ weighed (now (p .entry)) 508 ⌝ }
+// The sum over the first rows of (offset + 1) times the byte.
+fn weigh_rows(p: &[u8], rows: usize) -> u32
+    requires { ⌜ (rows ≤ 10) × (rows * 48 ≤ length (now p)) ⌝ }
+    ensures { λ r. ⌜ r ≡ weighed (now (p .entry)) (rows * 48) ⌝ }
 {
     let mut sums = [0u16; COLUMNS];
     let mut runs = [0u16; COLUMNS];
-    let mut r = ROWS;
+    let mut r = rows;
     while r > 0 {
         r -= 1;
         let start = r * COLUMNS;
         let end = start + COLUMNS;
         add_row(&p[start..end], &mut sums, &mut runs);
     }
-    gather(&sums, &runs) + tail(p)
+    gather(&sums, &runs)
+}
+
+// The sum over the bytes before the check of (offset + 1) times the byte.
+pub fn weigh(p: &[u8]) -> u32
+    requires { ⌜ 508 ≤ length (now p) ⌝ }
+    ensures { λ r. ⌜ r ≡ weighed (now (p .entry)) 508 ⌝ }
+{
+    weigh_rows(p, ROWS) + tail(p)
+}
+
+// The same sum where the bytes from `used` on are zero: rows of zeros are left out.
+// The number of rows is one of three constants, so that each sum is vector code in registers.
+pub fn weigh_used(p: &[u8], used: usize) -> u32
+    requires { ⌜ (508 ≤ length (now p)) × (someIn (set? (now p)) used 508 ≡ false) ⌝ }
+    ensures { λ r. ⌜ r ≡ weighed (now (p .entry)) 508 ⌝ }
+{
+    if used <= SMALL * COLUMNS {
+        return weigh_rows(p, SMALL);
+    }
+    if used <= HALF * COLUMNS {
+        return weigh_rows(p, HALF);
+    }
+    weigh(p)
 }

@@ -13,7 +13,7 @@ use Rattle.lists.specs.Search.{firstIn}
 use Rattle.lists.proofs.Tests.{both, and-left, and-right}
 use Rattle.lists.proofs.Searches.{none, holds, missed, before}
 use Rattle.refusals.specs.Outcome.{Outcome, gives, refuses}
-use Rattle.refusals.specs.Fault.{Fault, clear, fault, Row, row, first, Given, here, later, rowsFrom, inTurn, eachRow, moved, movedFault, judged, after}
+use Rattle.refusals.specs.Fault.{Fault, clear, fault, isClear, Row, row, first, Given, here, later, rowsFrom, inTurn, eachRow, moved, movedFault, judged, after}
 
 -- ---- faults told apart
 
@@ -25,6 +25,15 @@ one-number e k = cc
 
 pub one-place : {f : Fault} {m p n q : ℕ} → f ≡ fault m p → f ≡ fault n q → p ≡ q
 one-place e k = cc
+
+-- whether there is a fault, as a test says it
+pub not-clear : (f : Fault) → (f ≡ clear → ⊥) → false ≡ isClear f
+not-clear clear h = absurd (h refl)
+not-clear (fault n p) h = refl
+
+pub clear-is : (f : Fault) → true ≡ isClear f → f ≡ clear
+clear-is clear e = refl
+clear-is (fault n p) e = absurd (true≢false e)
 
 -- what is judged to be given, or refused
 pub judged-gives : {A : Type 0} (f : Fault) (x a : A) → gives x ≡ judged f a → (f ≡ clear) × (x ≡ a)
@@ -83,6 +92,14 @@ append-none xs ys e = go (first xs) refl
     go : (f : Fault) → first xs ≡ f → (first xs ≡ clear) × (first ys ≡ clear)
     go clear h = (h, sym (append-clear xs ys h) ∙ e)
     go (fault n p) h = absurd (no-fault e (append-fault xs ys h))
+
+-- rows of which none is there, behind others
+pub append-rest : (xs ys : List Row) → first ys ≡ clear → first (xs ++ ys) ≡ first xs
+append-rest xs ys e = go (first xs) refl
+  where
+    go : (f : Fault) → first xs ≡ f → first (xs ++ ys) ≡ first xs
+    go clear h = append-clear xs ys h ∙ e ∙ sym h
+    go (fault n p) h = append-fault xs ys h ∙ sym h
 
 -- ---- the rows of indexes, one index after the other
 

@@ -13,6 +13,11 @@ pub data Fault : Type 0 where
   clear : Fault
   fault : (number place : ℕ) → Fault
 
+-- whether there is none
+abbrev pub isClear : Fault → Bool
+isClear clear = true
+isClear (fault n p) = false
+
 -- ---- tables
 
 -- a row of a table: a number and a place, and whether the row's case is there

@@ -5,10 +5,10 @@ use crate::Write;
 use crate::layout;
 use octets::bytes;
 ghost use mathlib.Core.Path.{_≡_};
-ghost use Prim.Native.Nat.{_≤_, _<_};
+ghost use Prim.Native.Nat.{_+_, _≤_, _<_};
 ghost use lib.ListN.{length};
 ghost use Rattle.ledger.specs.Tx.{readOf, writeOf};
-ghost use Rattle.ledger.specs.Page.{pageTx, Counted};
+ghost use Rattle.ledger.specs.Page.{pageTx, writeAt, Counted};
 
 // The ticket.
 pub fn ticket(page: &[u8]) -> u32
@@ -49,16 +49,23 @@ pub fn read(page: &[u8], i: usize) -> Read
     }
 }
 
+// The write in the bytes from `at` on.
+pub fn write_at(page: &[u8], at: usize) -> Write
+    requires { ⌜ at + 12 ≤ length (now page) ⌝ }
+    ensures { λ x. ⌜ x ≡ writeAt (now (page .entry)) at ⌝ }
+{
+    Write {
+        key: bytes::le2(page, at),
+        kind: bytes::le2(page, at + 2),
+        value: bytes::signed(bytes::le8(page, at + 4)),
+    }
+}
+
 // Write `i`.
 pub fn write(page: &[u8], i: usize) -> Write
     requires { ⌜ Counted (now page) ⌝ }
     requires { ⌜ i < length (pageTx (now page) .writes) ⌝ }
     ensures { λ x. ⌜ x ≡ writeOf (pageTx (now (page .entry)) .writes) i ⌝ }
 {
-    let at = layout::writes_at(reads(page)) + layout::WRITE * i;
-    Write {
-        key: bytes::le2(page, at),
-        kind: bytes::le2(page, at + 2),
-        value: bytes::signed(bytes::le8(page, at + 4)),
-    }
+    write_at(page, layout::writes_at(reads(page)) + layout::WRITE * i)
 }

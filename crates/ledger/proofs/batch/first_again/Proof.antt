@@ -1,7 +1,6 @@
 -- `first_again`: a search by page, among the tickets.
 use Prim.Native.Nat.{_-_}
 use Rattle.lists.proofs.Loops.{Unfound, begins, found, passes, ends}
-use Rattle.lists.proofs.Searches.{some, none}
 use Rattle.lists.specs.Search.{someIn}
 use borrow.Author.Needs.{needs}
 use lib.Dec.{eqb}
@@ -20,19 +19,19 @@ abbrev μ-loop : tie.MeasureT-loop
 loop-holds : tie.Need-loop-holds Inv-loop μ-loop
 loop-holds c = begins _ _ _ (omega arith)
 
-mul-find : tie.Need-mul-find Inv-loop μ-loop
-mul-find c = search needs
+mul-among : tie.Need-mul-among Inv-loop μ-loop
+mul-among c = search needs
 
-element-copy-out-find : tie.Need-element-copy-out-find Inv-loop μ-loop
-element-copy-out-find c = search needs
+element-copy-out-among : tie.Need-element-copy-out-among Inv-loop μ-loop
+element-copy-out-among c = search needs
 
-find-requires : tie.Need-find-requires Inv-loop μ-loop
-find-requires c κs = search needs
+among-requires : tie.Need-among-requires Inv-loop μ-loop
+among-requires c κs = search needs
 
 returns : tie.Need-returns Inv-loop μ-loop
 returns c =
     let h = c .before .before .before .before in
-    found (h .loop .inv) (c .before .before .before .loop-test .taken) (some _ 0 _ _ (c .before .find .ensures) (c .if1 .taken))
+    found (h .loop .inv) (c .before .before .before .loop-test .taken) (sym (c .before .among .ensures) ∙ c .if1 .taken)
 
 add-i : tie.Need-add-i Inv-loop μ-loop
 add-i c = search needs
@@ -43,7 +42,7 @@ loop-less c = search needs
 loop-again : tie.Need-loop-again Inv-loop μ-loop
 loop-again c =
     let h = c .before .before .before .before in
-    passes (h .loop .inv) (c .before .before .before .loop-test .taken) (none _ 0 _ _ (c .before .find .ensures) (c .if1 .left))
+    passes (h .loop .inv) (c .before .before .before .loop-test .taken) (sym (c .before .among .ensures) ∙ c .if1 .left)
 
 returns-2 : tie.Need-returns-2 Inv-loop μ-loop
 returns-2 c = ends (c .before .loop .inv) (c .loop-test .left)
@@ -55,9 +54,9 @@ first-again-spec =
     Inv-loop
     μ-loop
     loop-holds
-    mul-find
-    element-copy-out-find
-    find-requires
+    mul-among
+    element-copy-out-among
+    among-requires
     returns
     add-i
     loop-less

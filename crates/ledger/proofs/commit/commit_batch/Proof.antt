@@ -1,5 +1,6 @@
 -- `commit_batch`: the stages of the gate in turn, then the pages.
-use Rattle.ledger.proofs.Commits.{own, commit-refused, commit-taken}
+use Prim.Native.Nat.{ℕ, _<_}
+use Rattle.ledger.proofs.Commits.{own, commit-refused, commit-taken, in-turn-txs}
 use Rattle.ledger.proofs.Gated.{front-whole, gate-front, gate-own, gate-pages, Through, through}
 use Rattle.ledger.specs.Gate.{pages, lentRow, frontRows, pagesRows, gateFault}
 use Rattle.ledger.specs.State.{State, stateOf, keys}
@@ -8,7 +9,7 @@ use Rattle.refusals.specs.Fault.{Row, clear, first, finding}
 use borrow.Author.Needs.{needs}
 use borrow.Author.Tests.{lt-ltb, le-ltb}
 use denote.Ref.{now}
-use lib.ListN.{length}
+use lib.ListN.{length, getD}
 use mathlib.Core.List.{List, []}
 use mathlib.Core.Path.{_≡_, refl, sym, ap, _∙_}
 use native.Mathlib.Omega.{arith}
@@ -48,6 +49,10 @@ sound c = sym (c .before .before .pages-fault .ensures) ∙ ap finding (c .enum-
 
 gated : (c : tie.After-enum-told2) → let s = start (c .before .before .before .before .before .before .before .before) in Through (now (s .args .batch)) (entered s) (s .args .n)
 gated c = through _ _ _ (front (c .before .before .before .before .before .before)) (sound c)
+
+-- each page stands at its own place
+own-place : (c : tie.After-in-turn) (i : ℕ) → i < pages (now (start (c .before .before .before .before .before .before .before .before .before) .args .batch)) → getD (c .in-turn .result) i 0 ≡ i
+own-place c i l = c .in-turn .ensures i (omega (arith, gated (c .before) .ready .few))
 
 front-fault-requires : tie.Need-front-fault-requires
 front-fault-requires c κs = search needs
@@ -128,12 +133,18 @@ returns-3 c =
 enum-told-2 : tie.Need-enum-told-2
 enum-told-2 c = search needs
 
+in-turn-requires : tie.Need-in-turn-requires
+in-turn-requires c κs = search needs
+
+slice-aggregate-commit-pages : tie.Need-slice-aggregate-commit-pages
+slice-aggregate-commit-pages c = search needs
+
 commit-pages-requires : tie.Need-commit-pages-requires
 commit-pages-requires c κs =
-    let t = c .before .before .before .before in
+    let t = c .before .before .before .before .before .before in
     let e = t .before .before .before .before .before in
     let o = gated t in
-    (o .ready, (o .level, e .if1 .left))
+    (o .ready, (o .level, ((o .ready .few, omega (arith, o .ready .few), e .if1 .left), λ i l. omega (arith, own-place (c .before .before .before .before .before) i l))))
 
 same-length-10 : tie.Need-same-length-10
 same-length-10 c = search needs
@@ -150,10 +161,11 @@ same-length-13 c = search needs
 returns-4 : tie.Need-returns-4
 returns-4 c =
     let w = c .before .before .before .before .before .before .before in
-    let t = w .before .before .before .before .before in
+    let t = w .before .before .before .before .before .before .before in
     let e = t .before .before .before .before .before in
     let s = start (e .before .before .before) in
-    commit-taken (now (s .args .batch)) (entered s) (s .args .n) (now (s .args .verdicts)) (rest e ∙ sound t) (w .commit-pages .ensures)
+    commit-taken (now (s .args .batch)) (entered s) (s .args .n) (now (s .args .verdicts)) (rest e ∙ sound t)
+    (rw (in-turn-txs (now (s .args .batch)) _ (own-place (w .before .before .before .before .before .before))) at (w .commit-pages .ensures))
 
 pub commit-batch-spec : {M : Type 1} → statement M
 commit-batch-spec =
@@ -179,6 +191,8 @@ commit-batch-spec =
     same-length-9
     returns-3
     enum-told-2
+    in-turn-requires
+    slice-aggregate-commit-pages
     commit-pages-requires
     same-length-10
     same-length-11

@@ -1,9 +1,11 @@
 -- `left`: a put and a delete.
 use borrow.Author.Needs.{needs}
 use borrow.Author.Tests.{eq-eqb, ne-eqb}
-use mathlib.Core.Path.{ap₂}
+use mathlib.Core.Path.{ap, ap₂, _∙_}
 use lib.IntN.{ℤ}
 use Rattle.ledger.specs.declared.Version.{Version}
+use Rattle.ledger.specs.Version.{absent}
+use Rattle.ledger.proofs.Commits.{delete-zero}
 use mir.Facts.{toZ-ofZ}
 use mir.Syntax.{w64}
 use Rattle.ledger.proofs.commit.left.Statement.{statement}
@@ -21,7 +23,11 @@ returns c =
     (toZ-ofZ {w = w64} {z = a .x .value} (record { sfits = c .struct-told .given .1 .1 .0 .1 })))
 
 returns-2 : tie.Need-returns-2
-returns-2 c = rw (ne-eqb _ 0 (c .if1 .left))
+returns-2 c =
+    let a = c .before .before .before .args in
+    rw (ne-eqb (a .x .kind) 0 (c .before .if1 .left))
+    (ap (λ (z : ℤ). record { version = absent; value = z })
+    (toZ-ofZ {w = w64} {z = a .x .value} (record { sfits = c .struct-told2 .given .1 .1 .0 .1 }) ∙ delete-zero (a .x) (c .before .before .before .pre) (c .before .if1 .left)))
 
 pub left-spec : {M : Type 1} → statement M
 left-spec = tie.close (tie.spec at-requires returns returns-2)

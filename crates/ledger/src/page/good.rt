@@ -1,0 +1,72 @@
+// Whether a page has no fault: one question, which nearly every page answers with yes.
+use crate::layout;
+use crate::page::check;
+use crate::page::counts;
+use crate::page::held;
+use octets::bytes;
+use octets::weight;
+use refusals::Finding;
+ghost use mathlib.Core.Path.{_≡_};
+ghost use Rattle.refusals.specs.Fault.{first, isClear};
+ghost use Rattle.ledger.specs.Page.{pageTx, pageFault, entryRows, Counted};
+ghost use Rattle.ledger.specs.Good.{framed, closed};
+
+// 1 and 3 to 5: the length, the mark, byte 3 and the counts.
+fn framed(page: &[u8]) -> bool
+    ensures { λ b. ⌜ b ≡ framed (now (page .entry)) ⌝ }
+{
+    if page.len() != layout::PAGE {
+        return false;
+    }
+    if page[0] != layout::MARK {
+        return false;
+    }
+    if page[layout::ZERO] != 0 {
+        return false;
+    }
+    let found = counts::count_fault(
+        page[layout::READ_COUNT] as usize,
+        page[layout::WRITE_COUNT] as usize,
+    );
+    if let Finding::Found { refusal: _ } = found {
+        return false;
+    }
+    true
+}
+
+// 2 and 10: no spare byte is set, and the check is the sum of the bytes that are used.
+fn closed(page: &[u8]) -> bool
+    requires { ⌜ Counted (now page) ⌝ }
+    ensures { λ b. ⌜ b ≡ closed (now (page .entry)) ⌝ }
+{
+    let spare = layout::spare_at(held::reads(page), held::writes(page));
+    if bytes::any_set(page, spare, layout::CHECK) {
+        return false;
+    }
+    weight::weigh_used(page, spare) == bytes::le4(page, layout::CHECK)
+}
+
+// 6 to 9: the entries.
+fn entered(page: &[u8]) -> bool
+    requires { ⌜ Counted (now page) ⌝ }
+    ensures { λ b. ⌜ b ≡ isClear (first (entryRows (pageTx (now (page .entry))))) ⌝ }
+{
+    let found = check::entry_fault(page);
+    if let Finding::Found { refusal: _ } = found {
+        return false;
+    }
+    true
+}
+
+// Whether a page has no fault: what nearly every page is asked.
+pub(crate) fn good(page: &[u8]) -> bool
+    ensures { λ b. ⌜ b ≡ isClear (pageFault (now (page .entry))) ⌝ }
+{
+    if !framed(page) {
+        return false;
+    }
+    if !closed(page) {
+        return false;
+    }
+    entered(page)
+}

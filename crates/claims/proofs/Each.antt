@@ -19,7 +19,7 @@ use Rattle.ledger.specs.Services.{readPage, checkPage, writeRows, writePage}
 use Rattle.ledger.specs.State.{State, stateOf, entry, stateRows}
 use Rattle.ledger.specs.Gate.{frontRows, pagesRows, gateRows}
 use Rattle.ledger.specs.Commit.{commitBatch}
-use Rattle.claims.specs.Cases.{tx, none, put, counted, bytes7, fresh, number, batchOf}
+use Rattle.claims.specs.Cases.{tx, absentRead, put, withCounts, bytes7, fresh, number, batchOf}
 
 -- 508 bytes with their check behind them
 abbrev pub sealed : List ℕ → List ℕ
@@ -48,7 +48,7 @@ module _ where
   unfolding readPage checkPage first pageRows wholeRows headRows countRows weighed field le
   page-5 = refl
 
-  pub page-6 : readPage (pageOf (tx 0 (none 3 ∷ none 3 ∷ []) [])) .answer ≡ refuses 6 0
+  pub page-6 : readPage (pageOf (tx 0 (absentRead 3 ∷ absentRead 3 ∷ []) [])) .answer ≡ refuses 6 0
   unfolding readPage checkPage first pageRows wholeRows headRows countRows entryRows pageTx weighed field le flat tab bodyOf pageOf firstIn seek floorOf
   page-6 = refl
 
@@ -99,13 +99,13 @@ module _ where
   unfolding commitBatch first rowsFrom moved gateRows frontRows stateRows pagesRows firstIn seek entry batchOf wholeRows headRows countRows entryRows pageTx weighed field le flat tab bodyOf pageOf floorOf
   batch-15 = refl
 
-  pub batch-16 : answer (batchOf (tx 5 [] [] ∷ tx 6 (none 8 ∷ []) [] ∷ [])) fresh (replicate 2 9) ≡ refuses 16 1
+  pub batch-16 : answer (batchOf (tx 5 [] [] ∷ tx 6 (absentRead 8 ∷ []) [] ∷ [])) fresh (replicate 2 9) ≡ refuses 16 1
   unfolding commitBatch first rowsFrom moved gateRows frontRows stateRows pagesRows firstIn seek entry batchOf wholeRows headRows countRows entryRows pageTx weighed field le flat tab bodyOf pageOf floorOf
   batch-16 = refl
 
 -- ---- writing a page, and writing a text
 
-pub write-17 : writePage [] 0 (counted 0 0) .answer ≡ refuses 17 0
+pub write-17 : writePage [] 0 (withCounts 0 0) .answer ≡ refuses 17 0
 unfolding writePage first writeRows countRows entryRows valueTx firstIn seek
 write-17 = refl
 

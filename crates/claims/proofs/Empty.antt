@@ -19,21 +19,21 @@ use Rattle.refusals.proofs.Answers.{apart, value}
 use Rattle.tonnage.specs.declared.Reading.the-variants.{Unread}
 use Rattle.tonnage.specs.Text.{digits, widthIn, width, textOf}
 use Rattle.tonnage.specs.Services.{read, writeText}
-use Rattle.tonnage.specs.Services.{Written, writeRows as textRows}
+use Rattle.tonnage.specs.Services.{WrittenText, writeRows as textRows}
 use Rattle.octets.specs.Bytes.{weighed, le, field}
 use Rattle.lists.specs.Search.{seek, firstIn}
 use Rattle.ledger.specs.declared.PageCheck.the-variants.{Bad}
 use Rattle.ledger.specs.Version.{at}
 use Rattle.ledger.specs.Tx.{Tx, floorOf}
 use Rattle.ledger.specs.Page.{countRows, entryRows, headRows, wholeRows, pageTx, pageOf, bodyOf}
-use Rattle.ledger.specs.Services.{Taken, checked, Put}
+use Rattle.ledger.specs.Services.{Taken, checked, WrittenPage}
 use Rattle.ledger.specs.declared.Entry.{Entry}
 use Rattle.ledger.specs.State.{State, entry, store, stateRows}
 use Rattle.ledger.specs.Gate.{pages, txAt, txs, frontRows, pagesRows, gateRows}
 use Rattle.ledger.specs.Commit.{passes, stamp, write, afterPage, verdicts, passed, Commits, commitBatch}
 use Rattle.ledger.specs.Commit.{commit as commitAll}
 use Rattle.planning.specs.Plan.{Plans, planBatch}
-use Rattle.claims.specs.Cases.{commit, Holds, tx, put, fresh, number, batchOf, clash, reader, failing, counted, bytes7}
+use Rattle.claims.specs.Cases.{commit, Holds, tx, put, fresh, number, batchOf, crossing, readerFirst, failing, withCounts, bytes7}
 use Rattle.claims.specs.Third.{verdictAt, zeros}
 use Rattle.claims.specs.Programs.{Program, PageReader, PageWriter, Planner, Committer, TextReader, TextWriter}
 use Rattle.claims.specs.Programs.{PageLent, PlanLent, CommitLent, TextLent}
@@ -73,18 +73,18 @@ abbrev pair : List Tx
 pair = tx 1 [] (put 3 5 ∷ []) ∷ tx 2 [] (put 4 6 ∷ []) ∷ []
 
 abbrev wide : PageLent
-wide = record { batch = replicate 512 0; index = 0; transaction = counted 25 25 }
+wide = record { batch = replicate 512 0; index = 0; transaction = withCounts 25 25 }
 
 abbrev figure : TextLent
 figure = record { buffer = replicate 21 0; figure = pos 68400 }
 
 -- their numbers are within their types
 module _ where
-  clash-fits : T (planFits (planOn clash))
+  clash-fits : T (planFits (planOn crossing))
   unfolding batchOf pageOf bodyOf weighed le flat
   clash-fits = tt
 
-  reader-fits : T (planFits (planOn reader))
+  reader-fits : T (planFits (planOn readerFirst))
   unfolding batchOf pageOf bodyOf weighed le flat
   reader-fits = tt
 
@@ -104,7 +104,7 @@ module _ where
   unfolding ascii
   text-fits = tt
 
-  clash-pages : pages (batchOf clash) ≡ 2
+  clash-pages : pages (batchOf crossing) ≡ 2
   unfolding batchOf pageOf bodyOf weighed le flat
   clash-pages = refl
 
@@ -139,12 +139,12 @@ pub writes-no-page :
     (p : PageWriter) → ((x : PageLent) → T (pageFits x) → (r : Refusal) × (p .does x .answer ≡ Refused r)) → ⊥
 writes-no-page p f =
     let w = f wide wide-fits in
-    no-refusal p (λ (k : Put). k .answer) wide wide-fits 0 (w .0) table.room-25 (ap outcome (w .1))
+    no-refusal p (λ (k : WrittenPage). k .answer) wide wide-fits 0 (w .0) table.room-25 (ap outcome (w .1))
 
 pub plans-none : (p : Planner) → ((x : PlanLent) → T (planFits x) → (r : Refusal) × (p .does x .answer ≡ Refused r)) → ⊥
 plans-none p f =
-    let w = f (planOn clash) clash-fits in
-    no-refusal p (λ (k : Plans). k .answer) (planOn clash) clash-fits 1 (w .0) (table.plan-clash .0) (ap outcome (w .1))
+    let w = f (planOn crossing) clash-fits in
+    no-refusal p (λ (k : Plans). k .answer) (planOn crossing) clash-fits 1 (w .0) (table.plan-clash .0) (ap outcome (w .1))
 
 pub commits-none :
     (p : Committer) → ((x : CommitLent) → T (commitFits x) → (r : Refusal) × (p .does x .answer ≡ Refused r)) → ⊥
@@ -162,7 +162,7 @@ pub writes-no-text :
     (p : TextWriter) → ((x : TextLent) → T (textFits x) → (r : Refusal) × (p .does x .answer ≡ Refused r)) → ⊥
 writes-no-text p f =
     let w = f figure tt in
-    no-refusal p (λ (k : Written). k .answer) figure tt 6 (w .0) figure-written (ap outcome (w .1))
+    no-refusal p (λ (k : WrittenText). k .answer) figure tt 6 (w .0) figure-written (ap outcome (w .1))
 
 -- ---- planners
 
@@ -184,7 +184,7 @@ module _ (p : Planner) where
       ((x : PlanLent) → T (planFits x) → (k : ℕ) → p .does x .answer ≡ Count k →
       (v : ℕ) × ((i : ℕ) → i < pages (x .batch) → verdictAt (p .does x .verdicts) i ≡ v)) → ⊥
   plans-one-verdict f =
-      let x = planOn clash in
+      let x = planOn crossing in
       let w = f x clash-fits 1 (plan-counts x clash-fits 1 (table.plan-clash .0)) in
       let vs : p .does x .verdicts ≡ 2 ∷ 0 ∷ [] =
       ap (λ (y : Plans). y .verdicts) (p .meets x clash-fits) ∙ table.plan-clash .1 in
@@ -212,24 +212,24 @@ module _ (p : Planner) where
   pub plans-count-pages :
       ((x : PlanLent) → T (planFits x) → (k : ℕ) → p .does x .answer ≡ Count k → k ≡ pages (x .batch)) → ⊥
   plans-count-pages f =
-      let e : 1 ≡ pages (batchOf clash) =
-      f (planOn clash) clash-fits 1 (plan-counts (planOn clash) clash-fits 1 (table.plan-clash .0)) in
+      let e : 1 ≡ pages (batchOf crossing) =
+      f (planOn crossing) clash-fits 1 (plan-counts (planOn crossing) clash-fits 1 (table.plan-clash .0)) in
       omega (arith, clash-pages)
 
   pub plans-count-more :
       ((x : PlanLent) → T (planFits x) → (k : ℕ) → p .does x .answer ≡ Count k →
       k ≡ suc (length (zeros (x .batch) (p .does x .verdicts)))) → ⊥
   plans-count-more f =
-      let a = plan-counts (planOn clash) clash-fits 1 (table.plan-clash .0) in
-      let e = f (planOn clash) clash-fits 1 a in
-      let g = plans-true-count (planOn clash) clash-fits 1 a in
+      let a = plan-counts (planOn crossing) clash-fits 1 (table.plan-clash .0) in
+      let e = f (planOn crossing) clash-fits 1 a in
+      let g = plans-true-count (planOn crossing) clash-fits 1 a in
       omega arith
 
   pub plans-one-count :
       (c : ℕ) → ((x : PlanLent) → T (planFits x) → (k : ℕ) → p .does x .answer ≡ Count k → k ≡ c) → ⊥
   plans-one-count c f =
-      let one : 1 ≡ c = f (planOn clash) clash-fits 1 (plan-counts (planOn clash) clash-fits 1 (table.plan-clash .0)) in
-      let two : 2 ≡ c = f (planOn reader) reader-fits 2 (plan-counts (planOn reader) reader-fits 2 (table.plan-reader .0)) in
+      let one : 1 ≡ c = f (planOn crossing) clash-fits 1 (plan-counts (planOn crossing) clash-fits 1 (table.plan-clash .0)) in
+      let two : 2 ≡ c = f (planOn readerFirst) reader-fits 2 (plan-counts (planOn readerFirst) reader-fits 2 (table.plan-reader .0)) in
       omega arith
 
 -- ---- commits

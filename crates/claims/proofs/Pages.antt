@@ -14,8 +14,8 @@ use Rattle.refusals.proofs.Rows.{row-none, row-passed, append-none, judged-give
 use Rattle.ledger.specs.declared.Transaction.{Transaction}
 use Rattle.octets.specs.Bytes.{Small, weighed}
 use Rattle.ledger.specs.Tx.{Tx, noRead, noWrite, valueTx, padded, TransactionFits}
-use Rattle.ledger.specs.Page.{countRows, entryRows, pageTx, pageOf, pageFault, pageAt, placed}
-use Rattle.ledger.specs.Services.{Counts, Taken, readPage, Put, indexRow, writeRows, writeFault, writePage}
+use Rattle.ledger.specs.Page.{countRows, entryRows, pageTx, pageOf, pageFault, pageAt, withPage}
+use Rattle.ledger.specs.Services.{Counts, Taken, readPage, WrittenPage, indexRow, writeRows, writeFault, writePage}
 use Rattle.lists.specs.Search.{seek, firstIn}
 use Rattle.ledger.proofs.Back.{page-back, good-back, long-page}
 use Rattle.ledger.proofs.Exact.{page-exact}
@@ -77,7 +77,7 @@ module _ (batch : List ℕ) (index : ℕ) (t : Transaction) where
       let g = written-good e in
       let parts = split g in
       let back = page-back t fits (parts .0) (parts .1) in
-      let b = sym (ap (λ (w : Put). w .batch) (faults.write-done batch index t g)) in
+      let b = sym (ap (λ (w : WrittenPage). w .batch) (faults.write-done batch index t g)) in
       let p = ap (λ (l : List ℕ). pageAt l index) b ∙ place.placed-here batch (pageOf (valueTx t)) index (good-counted (pageOf (valueTx t)) (back .0) .whole) (omega (arith, parts .2)) in
       ap readPage p ∙ good-taken (pageOf (valueTx t)) (back .0) ∙ ap (λ (x : Tx). record { answer = gives (counts x); transaction = padded x }) (back .1)
 
@@ -98,9 +98,9 @@ module _ (batch : List ℕ) (index : ℕ) (t : Transaction) where
   left :
       (f : Fault) → wrong ≡ f →
       (writePage batch index t .batch ≡ batch)
-      ⊎ ((wrong ≡ clear) × (writePage batch index t .batch ≡ placed batch index (pageOf (valueTx t))))
-  left clear g = inr (g, sym (ap (λ (w : Put). w .batch) (faults.write-done batch index t g)))
-  left (fault n q) g = inl (sym (ap (λ (w : Put). w .batch) (faults.write-refused batch index t n q g)))
+      ⊎ ((wrong ≡ clear) × (writePage batch index t .batch ≡ withPage batch index (pageOf (valueTx t))))
+  left clear g = inr (g, sym (ap (λ (w : WrittenPage). w .batch) (faults.write-done batch index t g)))
+  left (fault n q) g = inl (sym (ap (λ (w : WrittenPage). w .batch) (faults.write-refused batch index t n q g)))
 
   inside : wrong ≡ clear → index * 512 + 512 ≤ length batch
   inside g = omega (arith, split g .2)
@@ -131,7 +131,7 @@ module _ (batch : List ℕ) (index : ℕ) (t : Transaction) where
 pub accepted :
     (p : List ℕ) (c : Counts) → Small p → readPage p .answer ≡ gives c →
     (batch : List ℕ) (index : ℕ) → index < length batch / 512 →
-    writePage batch index (readPage p .transaction) ≡ record { answer = gives 0; batch = placed batch index p }
+    writePage batch index (readPage p .transaction) ≡ record { answer = gives 0; batch = withPage batch index p }
 unfolding first
 accepted p c small e batch index h =
     let g = taken-good p c e in
@@ -143,7 +143,7 @@ accepted p c small e batch index h =
     faults.wrong-index batch index (padded x) lengths (ap (λ (y : Tx). first (entryRows y)) v ∙ s .entries) ∙ row-passed (indexRow index (length batch / 512)) [] (ap not (lt-ltb index (length batch / 512) h)) in
     ap (λ (t : Transaction). writePage batch index t) (ap (λ (k : Taken). k .transaction) (good-taken p g))
     ∙ sym (faults.write-done batch index (padded x) none)
-    ∙ ap (λ (l : List ℕ). record { answer = gives 0; batch = placed batch index l }) (ap pageOf v ∙ page-exact p small g)
+    ∙ ap (λ (l : List ℕ). record { answer = gives 0; batch = withPage batch index l }) (ap pageOf v ∙ page-exact p small g)
 
 -- ---- what the check notices
 

@@ -2,7 +2,7 @@
 use Prim.Native.Nat.{ℕ, suc, _+_, _<_}
 use native.Mathlib.Nat.{add-zero, add-suc, suc-add}
 use native.Mathlib.Omega.{arith}
-use mathlib.Core.Bool.{Bool, true, false, not}
+use mathlib.Core.Bool.{Bool, true, false, not, cond}
 use mathlib.Core.List.{List, [], _∷_, _++_, map, List·Memᴰ·head, List·Memᴰ·tail}
 use mathlib.Core.Logic.{⊎-elim}
 use mathlib.Core.Path.{_≡_, refl, sym, ap, ap₂, _∙_}
@@ -10,7 +10,6 @@ use lib.ListN.{length, replicate}
 use lib.Seq.{getD-set-same, getD-set-other}
 use lib.IntN.{pos}
 use lib.Dec.{T, T-not, not-T, ltb, ltb→lt}
-use Rattle.lists.specs.Choice.{pick}
 use Rattle.lists.specs.Members.{_∈_, any, all, distinct}
 use Rattle.lists.proofs.Tests.{and-left, and-right, is-true, clash, decide, differ}
 use Rattle.lists.proofs.Membership.{any-in, all-out, in-at, all-same, map-same, apart, rest}
@@ -20,9 +19,10 @@ use Rattle.ledger.specs.Version.{same}
 use Rattle.ledger.specs.Tx.{Tx, keysRead, writer, noWrite, writeOf}
 use Rattle.ledger.specs.declared.Entry.{Entry}
 use Rattle.ledger.specs.declared.Stamp.{Stamp}
-use Rattle.ledger.specs.State.{State, Level, keys, versions, entry, store}
+use Rattle.ledger.specs.State.{State, keys, versions, entry, store}
 use Rattle.ledger.specs.Gate.{beyond}
 use Rattle.ledger.specs.Commit.{names, passes, stamp, left, write, afterPage, commit, verdicts}
+use Rattle.ledger.specs.Inner.{Level}
 use Rattle.ledger.proofs.Commits.{kept-level, store-kept, write-kept}
 use Rattle.ledger.proofs.Faults.{or-none}
 use Rattle.ledger.proofs.Rising.{Rising}
@@ -192,7 +192,7 @@ module _ (b : ℕ → Tx) where
     unfolding verdicts
     fails-none p s [] z = refl
     fails-none p s (i ∷ os) z =
-        ap₂ (λ (t : Bool) (x : State). pick t 0 3 ∷ verdicts n (suc p) x (map b os)) (now-passes s i os z) (after-writes p s i os z)
+        ap₂ (λ (t : Bool) (x : State). cond t 0 3 ∷ verdicts n (suc p) x (map b os)) (now-passes s i os z) (after-writes p s i os z)
         ∙ ap (λ l. 0 ∷ l) (fails-none (suc p) (write (stamp n p) s (b i .writes)) os (next p s i os z))
 
   -- ---- where a key ends

@@ -10,9 +10,10 @@ use borrow.Author.Tests.{lt-ltb, le-leb, eq-eqb}
 use Rattle.refusals.specs.Outcome.{gives, refuses}
 use Rattle.refusals.specs.Fault.{Fault, clear, fault, after}
 use Rattle.refusals.specs.Fault.{first as rowsFirst}
-use Rattle.ledger.specs.State.{State, Level, keys, versions, wrongLengths}
+use Rattle.ledger.specs.State.{State, keys, versions, wrongLengths}
 use Rattle.ledger.specs.Gate.{pages, txAt, txs}
 use Rattle.ledger.specs.Commit.{commit, Commits, commitRows, commitBatch}
+use Rattle.ledger.specs.Inner.{Level}
 use Rattle.lists.proofs.Tables.{length-tab}
 use Rattle.ledger.proofs.Gated.{Through, gate-open}
 use Rattle.ledger.proofs.Commits.{Kept, kept-self, commit-kept}

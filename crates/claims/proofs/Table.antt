@@ -6,7 +6,7 @@ use Rattle.refusals.specs.Outcome.{gives, refuses}
 use Rattle.refusals.specs.Fault.{first, rowsFrom, moved}
 use Rattle.ledger.specs.Version.{at}
 use Rattle.lists.specs.Search.{seek, firstIn}
-use Rattle.tonnage.specs.Text.{follow, size, laid, form, figure}
+use Rattle.tonnage.specs.Text.{follow, magnitude, laid, form, figure}
 use Rattle.tonnage.specs.Services.{readRows, readText}
 use Rattle.lists.specs.Tables.{flat, tab}
 use Rattle.octets.specs.Bytes.{field, weighed, le}
@@ -24,11 +24,11 @@ use Rattle.lists.specs.Members.{upto}
 use Rattle.planning.specs.Plan.{before, sequence, kept, verdict, order, gathered, plans, planBatch}
 use Rattle.lists.specs.Ascii.{ascii}
 use Rattle.claims.specs.Cases.{text, page, plan, commit, written, Holds, Hold, table, number, batchOf}
-use Rattle.claims.specs.Cases.{counted, ticket7, bytes7, clash, reader, failing}
+use Rattle.claims.specs.Cases.{withCounts, ticket7, bytes7, crossing, readerFirst, failing}
 
 -- every case that document 01 marks P holds of the definitions that the promises cite
 pub cases : Hold table
-unfolding first rowsFrom moved ascii readText readRows form laid firstIn seek size follow figure writePage writeRows countRows entryRows valueTx floorOf pageOf bodyOf weighed le flat tab readPage checkPage pageRows wholeRows headRows pageTx field padded
+unfolding first rowsFrom moved ascii readText readRows form laid firstIn seek magnitude follow figure writePage writeRows countRows entryRows valueTx floorOf pageOf bodyOf weighed le flat tab readPage checkPage pageRows wholeRows headRows pageTx field padded
     batchOf gateRows frontRows stateRows pagesRows txs entry store passes write afterPage commitAll verdicts passed commitBatch
     joined cyclic admit lowestTicket without arrange byTicket free schedule upto keysRead keysWritten readerOf before sequence kept verdict order gathered plans planBatch
 cases = (
@@ -64,13 +64,13 @@ text-no-comma = cases .1 .1 .0
 pub page-ticket7 : Holds (page ticket7 bytes7)
 page-ticket7 = cases .1 .1 .1 .1 .0
 
-pub room-25 : Holds (written (counted 25 25) (gives 0))
+pub room-25 : Holds (written (withCounts 25 25) (gives 0))
 room-25 = cases .1 .1 .1 .1 .1 .0
 
-pub plan-clash : Holds (plan clash 1 (2 ∷ 0 ∷ []) (1 ∷ 9 ∷ []))
+pub plan-clash : Holds (plan crossing 1 (2 ∷ 0 ∷ []) (1 ∷ 9 ∷ []))
 plan-clash = cases .1 .1 .1 .1 .1 .1 .1 .0
 
-pub plan-reader : Holds (plan reader 2 (0 ∷ 0 ∷ []) (1 ∷ 0 ∷ []))
+pub plan-reader : Holds (plan readerFirst 2 (0 ∷ 0 ∷ []) (1 ∷ 0 ∷ []))
 plan-reader = cases .1 .1 .1 .1 .1 .1 .1 .1 .0
 
 pub commit-failing : Holds (commit failing 1 (3 ∷ 0 ∷ []) 4 (record { version = at number 1; value = pos 9 }))

@@ -1,7 +1,7 @@
 -- Demands 1 and 2 for tonnage texts: which number is given when, and the round trips. Assumes nothing.
 use Prim.Native.Nat.{ℕ, _≤_, _<_}
 use native.Mathlib.Omega.{arith}
-use mathlib.Core.Bool.{Bool, true, false, true≢false}
+use mathlib.Core.Bool.{Bool, true, false, true≢false, cond}
 use mathlib.Core.List.{List, _++_}
 use mathlib.Core.Logic.{_⊎_, inl, inr, _↔_}
 use mathlib.Core.Path.{_≡_, refl, sym, ap, _∙_}
@@ -10,13 +10,12 @@ use lib.IntN.{ℤ}
 use lib.Dec.{ltb}
 use lib.Seq.{take-append-seam}
 use borrow.Author.Tests.{ltb-true, ltb-false}
-use Rattle.lists.specs.Choice.{pick}
 use Rattle.refusals.specs.Outcome.{gives, refuses}
 use Rattle.refusals.specs.Fault.{first}
 use Rattle.lists.specs.Search.{seek, firstIn}
-use Rattle.tonnage.specs.Text.{follow, size, laid, form, figure, textOf}
+use Rattle.tonnage.specs.Text.{follow, magnitude, laid, form, figure, textOf}
 use Rattle.tonnage.specs.Grammar.{Tonnage}
-use Rattle.tonnage.specs.Services.{in64, readRows, readText, Written, writeRows, writeText}
+use Rattle.tonnage.specs.Services.{in64, readRows, readText, WrittenText, writeRows, writeText}
 use Rattle.tonnage.proofs.RoundTrip.{accepted-written, written-accepted, written}
 use Rattle.tonnage.proofs.Sentence.{grammar-form}
 use Rattle.lists.specs.Ascii.{ascii}
@@ -27,7 +26,7 @@ use Rattle.claims.proofs.Table.{text-no-comma}
 
 module _ (text : List ℕ) where
   -- what is read, by the two tests
-  judged : (f i : Bool) → form text ≡ f → in64 (figure text) ≡ i → readText text ≡ pick f (pick i (gives (figure text)) (refuses 19 0)) (refuses 18 0)
+  judged : (f i : Bool) → form text ≡ f → in64 (figure text) ≡ i → readText text ≡ cond f (cond i (gives (figure text)) (refuses 19 0)) (refuses 18 0)
   unfolding readText readRows first
   judged true true h k = rw (h, k)
   judged true false h k = rw (h, k)
@@ -71,7 +70,7 @@ pub given-18 : readText (ascii "684") ≡ refuses 18 0
 given-18 = text-no-comma
 
 pub given-19 : readText (ascii "9223372036854775,808") ≡ refuses 19 0
-unfolding ascii readText readRows first form laid firstIn seek size follow figure
+unfolding ascii readText readRows first form laid firstIn seek magnitude follow figure
 given-19 = refl
 
 -- ---- reading and writing: demand 2, "tonnage texts read back as written, and one that is accepted is exactly what our writer would write"
@@ -86,14 +85,14 @@ accepted text z h buffer l =
     ∙ ap (λ (t : List ℕ). record { answer = gives (length t); text = t ++ drop (length t) buffer }) e
 
 module _ (buffer : List ℕ) (z : ℤ) where
-  abbrev fit : Written
+  abbrev fit : WrittenText
   fit = record { answer = gives (length (textOf z)); text = textOf z ++ drop (length (textOf z)) buffer }
 
-  abbrev unfit : Written
+  abbrev unfit : WrittenText
   unfit = record { answer = refuses 20 0; text = buffer }
 
   -- what is written, by the test of the length
-  done : (b : Bool) → ltb (length buffer) (length (textOf z)) ≡ b → writeText buffer z ≡ pick b unfit fit
+  done : (b : Bool) → ltb (length buffer) (length (textOf z)) ≡ b → writeText buffer z ≡ cond b unfit fit
   unfolding writeText writeRows first
   done true h = rw h
   done false h = rw h
@@ -104,9 +103,9 @@ module _ (buffer : List ℕ) (z : ℤ) where
     where
       go : (b : Bool) → ltb (length buffer) (length (textOf z)) ≡ b → readText (take n (writeText buffer z .text)) ≡ gives z
       go false k =
-          let long : length (textOf z) ≡ n = value (ap (λ (w : Written). w .answer) (done false k)) e in
+          let long : length (textOf z) ≡ n = value (ap (λ (w : WrittenText). w .answer) (done false k)) e in
           rw (done false k, ← long, take-append-seam (textOf z) (drop (length (textOf z)) buffer)) (written-accepted z h)
-      go true k = absurd (apart e (ap (λ (w : Written). w .answer) (done true k)))
+      go true k = absurd (apart e (ap (λ (w : WrittenText). w .answer) (done true k)))
 
   -- ---- writing: demand 1
 
@@ -115,15 +114,15 @@ module _ (buffer : List ℕ) (z : ℤ) where
   refused-20 = go (ltb (length buffer) (length (textOf z))) refl
     where
       go : (b : Bool) → ltb (length buffer) (length (textOf z)) ≡ b → (writeText buffer z .answer ≡ refuses 20 0) ↔ (length buffer < length (textOf z))
-      go false k = (λ e. absurd (apart (ap (λ (w : Written). w .answer) (done false k)) e), λ l. absurd (omega (arith, ltb-false (length buffer) (length (textOf z)) k)))
-      go true k = (λ e. ltb-true (length buffer) (length (textOf z)) k, λ l. ap (λ (w : Written). w .answer) (done true k))
+      go false k = (λ e. absurd (apart (ap (λ (w : WrittenText). w .answer) (done false k)) e), λ l. absurd (omega (arith, ltb-false (length buffer) (length (textOf z)) k)))
+      go true k = (λ e. ltb-true (length buffer) (length (textOf z)) k, λ l. ap (λ (w : WrittenText). w .answer) (done true k))
 
   -- nothing else is refused, and what is refused leaves the buffer as it was
   pub refused-unchanged : (n p : ℕ) → writeText buffer z .answer ≡ refuses n p → (n ≡ 20) × (p ≡ 0) × (writeText buffer z .text ≡ buffer)
   refused-unchanged n p e = go (ltb (length buffer) (length (textOf z))) refl
     where
       go : (b : Bool) → ltb (length buffer) (length (textOf z)) ≡ b → (n ≡ 20) × (p ≡ 0) × (writeText buffer z .text ≡ buffer)
-      go false k = absurd (apart (ap (λ (w : Written). w .answer) (done false k)) e)
+      go false k = absurd (apart (ap (λ (w : WrittenText). w .answer) (done false k)) e)
       go true k =
-          let f = ap (λ (w : Written). w .answer) (done true k) in
-          (sym (number f e), sym (place f e), ap (λ (w : Written). w .text) (done true k))
+          let f = ap (λ (w : WrittenText). w .answer) (done true k) in
+          (sym (number f e), sym (place f e), ap (λ (w : WrittenText). w .text) (done true k))

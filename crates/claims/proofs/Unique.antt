@@ -11,11 +11,11 @@ use Rattle.ledger.specs.declared.Transaction.{Transaction}
 use Rattle.ledger.specs.declared.PageCheck.{PageCheck}
 use Rattle.ledger.specs.declared.PageCheck.the-variants.{Good, Bad}
 use Rattle.ledger.specs.declared.PageRead.{PageRead}
-use Rattle.ledger.specs.Services.{Counts, checked, checkPage, Taken, taken, readPage, Put, put, writePage}
+use Rattle.ledger.specs.Services.{Counts, checked, checkPage, Taken, taken, readPage, WrittenPage, put, writePage}
 use Rattle.ledger.specs.State.{State}
 use Rattle.ledger.specs.Commit.{Commits, committed, commitBatch}
 use Rattle.planning.specs.Plan.{Plans, planned, planBatch}
-use Rattle.tonnage.specs.Services.{read, readText, Written as WrittenText, wrote, writeText}
+use Rattle.tonnage.specs.Services.{read, readText, WrittenText, wrote, writeText}
 
 one-reading : (r q : Reading) → read r ≡ read q → r ≡ q
 one-reading (Kilograms y) (Kilograms z) e = cc
@@ -62,7 +62,7 @@ pub write-page :
     put x b ≡ writePage batch index t → put y c ≡ writePage batch index t → (x ≡ y) × (b ≡ c)
 write-page batch index t x y b c h k =
     let e = h ∙ sym k in
-    (one-answer x y (ap (λ (w : Put). w .answer) e), ap (λ (w : Put). w .batch) e)
+    (one-answer x y (ap (λ (w : WrittenPage). w .answer) e), ap (λ (w : WrittenPage). w .batch) e)
 
 -- ---- batches
 

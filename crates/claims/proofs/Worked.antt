@@ -27,7 +27,7 @@ use Rattle.orders.specs.Chain.{joined, cyclic}
 use Rattle.orders.specs.Admission.{admit}
 use Rattle.orders.specs.Arrange.{lowest as lowestTicket, without, arrange, byTicket, free, schedule}
 use Rattle.planning.specs.Plan.{before, sequence, kept, verdict, order, plans}
-use Rattle.report.specs.Listing.{header, placed, pageLine, stateLine, keyLine, listing}
+use Rattle.report.specs.Listing.{header, placeText, pageLine, stateLine, keyLine, listing}
 use Rattle.report.specs.Program.{startNumber, start, shown}
 use Rattle.claims.specs.Cases.{batchOf}
 use Rattle.claims.specs.Serial.{run}
@@ -82,7 +82,7 @@ module _ (input : List ℕ) (k : ℕ) where
   abbrev ahead : List ℕ → List ℕ
   ahead l =
       header startNumber (pages input) k
-      ++ (flat (pages input) (λ i. pageLine (txAt input i .ticket) (getD (clearPlan input .verdicts) i 0) (placed (clearPlan input .order) k i)) ++ l)
+      ++ (flat (pages input) (λ i. pageLine (txAt input i .ticket) (getD (clearPlan input .verdicts) i 0) (placeText (clearPlan input .order) k i)) ++ l)
 
   abbrev lines : ℕ → List ℕ
   lines m = ahead (flat m (keyLine after))
@@ -116,7 +116,7 @@ from-sheet xs k text h l s = shown-few (batchOf xs) k 10 1014 refl (open-gate xs
 sheets : Sheet five 3 nineLines × Sheet correction 2 letterLines
 unfolding start batchOf firstIn seek firstOf rowsFrom countRows entryRows floorOf pageOf bodyOf weighed le flat tab pageTx field entry store passes write run
     joined cyclic admit lowestTicket without arrange byTicket free schedule upto keysRead keysWritten reader before sequence kept verdict order plans
-    header placed pageLine stateLine keyLine digits widthIn width textOf ascii
+    header placeText pageLine stateLine keyLine digits widthIn width textOf ascii
 sheets = (
   record { sound = tt; clean = refl; count = refl; below = tt; reads = refl },
   record { sound = tt; clean = refl; count = refl; below = tt; reads = refl },

@@ -73,8 +73,8 @@ Hold [] = Unit {0}
 Hold (c ∷ cs) = Holds c × Hold cs
 
 -- r reads of absent keys 0, 1, .., and w puts of 0 on keys 0, 1, ..
-abbrev pub counted : ℕ → ℕ → Transaction
-counted r w = record {
+abbrev pub withCounts : ℕ → ℕ → Transaction
+withCounts r w = record {
   ticket = 0;
   r = r;
   w = w;
@@ -102,19 +102,19 @@ bytes7 =
 abbrev pub tx : ℕ → List Read → List Write → Tx
 tx t rs ws = record { ticket = t; reads = rs; writes = ws }
 
-abbrev pub none : ℕ → Read
-none k = record { key = k; version = absent }
+abbrev pub absentRead : ℕ → Read
+absentRead k = record { key = k; version = absent }
 
 abbrev pub put : ℕ → ℕ → Write
 put k v = record { key = k; kind = 0; value = pos v }
 
 -- "P: two transactions that each read and write key 3: the lower ticket is kept, the other gets 2."
-abbrev pub clash : List Tx
-clash = tx 9 (none 3 ∷ []) (put 3 1 ∷ []) ∷ tx 4 (none 3 ∷ []) (put 3 2 ∷ []) ∷ []
+abbrev pub crossing : List Tx
+crossing = tx 9 (absentRead 3 ∷ []) (put 3 1 ∷ []) ∷ tx 4 (absentRead 3 ∷ []) (put 3 2 ∷ []) ∷ []
 
 -- "P: A reads 1, B writes 1: B with the lower ticket still stands after A."
-abbrev pub reader : List Tx
-reader = tx 3 [] (put 1 5 ∷ []) ∷ tx 8 (none 1 ∷ []) [] ∷ []
+abbrev pub readerFirst : List Tx
+readerFirst = tx 3 [] (put 1 5 ∷ []) ∷ tx 8 (absentRead 1 ∷ []) [] ∷ []
 
 -- "P: two writers of key 3 that read nothing: both kept, lower ticket first, the higher ticket's value stays."
 abbrev pub writers : List Tx
@@ -134,10 +134,10 @@ table =
     text "684" (refuses 18 0) ∷
     text "-0,000" (refuses 18 0) ∷
     page ticket7 bytes7 ∷
-    written (counted 25 25) (gives 0) ∷
-    written (counted 26 25) (refuses 5 0) ∷
-    plan clash 1 (2 ∷ 0 ∷ []) (1 ∷ 9 ∷ []) ∷
-    plan reader 2 (0 ∷ 0 ∷ []) (1 ∷ 0 ∷ []) ∷
+    written (withCounts 25 25) (gives 0) ∷
+    written (withCounts 26 25) (refuses 5 0) ∷
+    plan crossing 1 (2 ∷ 0 ∷ []) (1 ∷ 9 ∷ []) ∷
+    plan readerFirst 2 (0 ∷ 0 ∷ []) (1 ∷ 0 ∷ []) ∷
     plan writers 2 (0 ∷ 0 ∷ []) (1 ∷ 0 ∷ []) ∷
     settled writers 3 (record { version = at number 1; value = pos 5 }) ∷
     commit failing 1 (3 ∷ 0 ∷ []) 4 (record { version = at number 1; value = pos 9 }) ∷

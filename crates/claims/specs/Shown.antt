@@ -9,7 +9,7 @@ use Rattle.ledger.specs.Version.{at}
 use Rattle.ledger.specs.Tx.{Tx}
 use Rattle.report.specs.Listing.{listing, refusal}
 use Rattle.report.specs.Program.{startNumber, start, plan, stateAfter}
-use Rattle.claims.specs.Cases.{tx, none, put}
+use Rattle.claims.specs.Cases.{tx, absentRead, put}
 
 -- a text for an input is the whole listing, or the refusal's line
 abbrev pub Whole : List ℕ → List ℕ → Type 0
@@ -22,9 +22,9 @@ Whole input text =
 abbrev pub five : List Tx
 five =
     tx 10 [] (put 5 68400 ∷ [])
-    ∷ tx 20 (none 5 ∷ []) (put 6 100 ∷ [])
-    ∷ tx 30 (none 6 ∷ []) (record { key = 7; kind = 0; value = negsuc 49 } ∷ [])
-    ∷ tx 40 (none 7 ∷ []) (put 5 1 ∷ [])
+    ∷ tx 20 (absentRead 5 ∷ []) (put 6 100 ∷ [])
+    ∷ tx 30 (absentRead 6 ∷ []) (record { key = 7; kind = 0; value = negsuc 49 } ∷ [])
+    ∷ tx 40 (absentRead 7 ∷ []) (put 5 1 ∷ [])
     ∷ tx 50 (record { key = 8; version = at 0 0 } ∷ []) []
     ∷ []
 
@@ -32,8 +32,8 @@ five =
 abbrev pub correction : List Tx
 correction =
     tx 70 [] (put 4 68400 ∷ [])
-    ∷ tx 60 (none 4 ∷ []) (put 3 684000 ∷ [])
-    ∷ tx 80 (none 3 ∷ none 4 ∷ []) (put 4 1000 ∷ put 9 5000 ∷ [])
+    ∷ tx 60 (absentRead 4 ∷ []) (put 3 684000 ∷ [])
+    ∷ tx 80 (absentRead 3 ∷ absentRead 4 ∷ []) (put 4 1000 ∷ put 9 5000 ∷ [])
     ∷ tx 90 (record { key = 4; version = at 0 7 } ∷ []) []
     ∷ []
 

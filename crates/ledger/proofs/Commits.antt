@@ -1,6 +1,6 @@
 -- Laws of the version check and of commit. Assumes nothing.
 use mathlib.Core.Path.{_≡_, refl, sym, ap, _∙_}
-use mathlib.Core.Bool.{Bool, true, false, not, _||_, _&&_}
+use mathlib.Core.Bool.{Bool, true, false, not, _||_, _&&_, cond}
 use mathlib.Core.List.{List, [], _∷_, _++_}
 use Prim.Native.Nat.{ℕ, suc, _+_, _≤_, _<_}
 use native.Mathlib.Nat.{add-zero, add-suc, suc-add, zero-add}
@@ -11,7 +11,6 @@ use lib.Seq.{take-suc, take-all, drop-cons, set-at, append-snoc}
 use lib.Dec.{eqb, ltb}
 use lib.IntN.{pos}
 use borrow.Author.Tests.{ne-eqb, not-false}
-use Rattle.lists.specs.Choice.{pick}
 use Rattle.lists.specs.Search.{firstIn}
 use Rattle.lists.proofs.Searches.{within, all-search}
 use Rattle.lists.proofs.Tests.{eqb-not}
@@ -24,9 +23,10 @@ use Rattle.ledger.specs.declared.Entry.{Entry}
 use Rattle.ledger.specs.declared.Stamp.{Stamp}
 use Rattle.lists.specs.Tables.{tab}
 use Rattle.ledger.specs.Tx.{Tx, noRead, readOf, writeOf, noWrite, wrongKind}
-use Rattle.ledger.specs.State.{State, Level, keys, versions, store}
+use Rattle.ledger.specs.State.{State, versions, store}
 use Rattle.ledger.specs.Gate.{pages, txAt, txs, txsIn, lentRow, gateFault}
-use Rattle.ledger.specs.Commit.{names, passes, stamp, left, write, afterPage, verdict, commit, verdicts, passed, Commitment, commitBatch}
+use Rattle.ledger.specs.Commit.{names, passes, stamp, left, write, afterPage, checkVerdict, commit, verdicts, passed, commitBatch}
+use Rattle.ledger.specs.Inner.{Level, Commitment}
 use Rattle.lists.proofs.Tables.{length-tab, tab-same}
 use Rattle.ledger.specs.Value.{isZero}
 use Rattle.ledger.proofs.Faults.{and-both}
@@ -44,21 +44,21 @@ unfolding commit
 commit-last n i s [] x = rw add-zero
 commit-last n i s (y ∷ xs) x = rw (add-suc, ← suc-add) (commit-last n (suc i) (afterPage n i s y) xs x)
 
-pub verdicts-last : (n i : ℕ) (s : State) (xs : List Tx) (x : Tx) → verdicts n i s (xs ++ (x ∷ [])) ≡ verdicts n i s xs ++ (verdict (commit n i s xs) x ∷ [])
+pub verdicts-last : (n i : ℕ) (s : State) (xs : List Tx) (x : Tx) → verdicts n i s (xs ++ (x ∷ [])) ≡ verdicts n i s xs ++ (checkVerdict (commit n i s xs) x ∷ [])
 unfolding verdicts commit
 verdicts-last n i s [] x = refl
-verdicts-last n i s (y ∷ xs) x = ap (λ l. verdict s y ∷ l) (verdicts-last n (suc i) (afterPage n i s y) xs x)
+verdicts-last n i s (y ∷ xs) x = ap (λ l. checkVerdict s y ∷ l) (verdicts-last n (suc i) (afterPage n i s y) xs x)
 
 pub verdicts-length : (n i : ℕ) (s : State) (xs : List Tx) → length (verdicts n i s xs) ≡ length xs
 unfolding verdicts
 verdicts-length n i s [] = refl
 verdicts-length n i s (y ∷ xs) = ap suc (verdicts-length n (suc i) (afterPage n i s y) xs)
 
-pub passed-last : (vs : List ℕ) (v : ℕ) → passed (vs ++ (v ∷ [])) ≡ passed vs + pick (eqb 0 v) 1 0
+pub passed-last : (vs : List ℕ) (v : ℕ) → passed (vs ++ (v ∷ [])) ≡ passed vs + cond (eqb 0 v) 1 0
 unfolding passed
 passed-last vs v = rw (those-append (eqb 0) vs (v ∷ []), length-append) (ap (λ x. passed vs + x) (go (eqb 0 v)))
   where
-    go : (b : Bool) → length (pick b (v ∷ []) []) ≡ pick b 1 0
+    go : (b : Bool) → length (cond b (v ∷ []) []) ≡ cond b 1 0
     go true = refl
     go false = refl
 
@@ -95,7 +95,7 @@ pub after-kept : (n i : ℕ) (s : State) (x : Tx) → Kept s (afterPage n i s x)
 unfolding afterPage
 after-kept n i s x = go (passes (versions s) x)
   where
-    go : (b : Bool) → Kept s (pick b (write (stamp n i) s (x .writes)) s)
+    go : (b : Bool) → Kept s (cond b (write (stamp n i) s (x .writes)) s)
     go true = write-kept (stamp n i) s (x .writes)
     go false = kept-self s
 
@@ -187,7 +187,7 @@ module _ (tx : ℕ → Tx) (s : State) (n : ℕ) (vs : List ℕ) where
   next-commit : (i : ℕ) → commit n 0 s (first (i + 1)) ≡ afterPage n i (commit n 0 s (first i)) (tx i)
   next-commit i = rw (next i, commit-last, length-tab, zero-add)
 
-  next-verdicts : (i : ℕ) → verdicts n 0 s (first (i + 1)) ≡ verdicts n 0 s (first i) ++ (verdict (commit n 0 s (first i)) (tx i) ∷ [])
+  next-verdicts : (i : ℕ) → verdicts n 0 s (first (i + 1)) ≡ verdicts n 0 s (first i) ++ (checkVerdict (commit n 0 s (first i)) (tx i) ∷ [])
   next-verdicts i = rw (next i, verdicts-last)
 
   module _ (i count : ℕ) (t : State) (ws : List ℕ) (c : Committing i count t ws) where
@@ -206,18 +206,18 @@ module _ (tx : ℕ → Tx) (s : State) (n : ℕ) (vs : List ℕ) where
     pub committing-turns : (x : Tx) (b : Bool) (more : ℕ) (u : State) (new : List ℕ) → i < length vs → x ≡ tx i
         → b ≡ passes (versions t) x
         → u ≡ afterPage n i t x
-        → more ≡ count + pick b 1 0
-        → new ≡ set ws i (pick b 0 3)
+        → more ≡ count + cond b 1 0
+        → new ≡ set ws i (cond b 0 3)
         → Committing (i + 1) more u new
     committing-turns x b more u new h is e f g q =
-        let v : _≡_ {A = ℕ} (pick b 0 3) (verdict (commit n 0 s (first i)) (tx i)) = ap (λ y. pick y 0 3) (rw is at e) ∙ ap (λ r. verdict r (tx i)) (c .state-is) in
+        let v : _≡_ {A = ℕ} (cond b 0 3) (checkVerdict (commit n 0 s (first i)) (tx i)) = ap (λ y. cond y 0 3) (rw is at e) ∙ ap (λ r. checkVerdict r (tx i)) (c .state-is) in
         record {
           state-is = rw is at f ∙ ap (λ r. afterPage n i r (tx i)) (c .state-is) ∙ sym (next-commit i);
-          verdicts-are = q ∙ stored (pick b 0 3) h ∙ rw (next-verdicts i, ← v);
+          verdicts-are = q ∙ stored (cond b 0 3) h ∙ rw (next-verdicts i, ← v);
           count-is = g ∙ rw (next-verdicts i, ← v, passed-last, ← c .count-is) (ap (λ y. count + y) (go b));
         }
       where
-        go : (b : Bool) → _≡_ {A = ℕ} (pick b 1 0) (pick (eqb 0 (pick b 0 3)) 1 0)
+        go : (b : Bool) → _≡_ {A = ℕ} (cond b 1 0) (cond (eqb 0 (cond b 0 3)) 1 0)
         go true = refl
         go false = refl
 

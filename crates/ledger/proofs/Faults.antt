@@ -1,6 +1,6 @@
 -- The table of a page: which fault is the first, and what it says that there is none. Assumes nothing.
 use mathlib.Core.Path.{_≡_, refl, sym, _∙_}
-use mathlib.Core.Bool.{Bool, true, false, not, _||_, _&&_, true≢false, false≢true}
+use mathlib.Core.Bool.{Bool, true, false, _||_, _&&_, true≢false, false≢true}
 use mathlib.Core.List.{List, [], _∷_, _++_}
 use Prim.Native.Nat.{ℕ, _+_, _/_, _≤_, _<_}
 use lib.ListN.{length, getD}
@@ -13,10 +13,11 @@ use Rattle.refusals.specs.Fault.{Fault, clear, fault, first}
 use Rattle.refusals.proofs.Rows.{row-none, row-passed, append-clear, append-fault, append-none, judged-gives, judged-refuses}
 use Rattle.octets.specs.Bytes.{field, weighed, set?}
 use Rattle.ledger.specs.Tx.{Tx, valueTx, padded, readOf, writeOf, outOfTurn, wrongVersion, wrongKind}
-use Rattle.ledger.specs.Page.{readCount, writeCount, size, countRows, entryRows, headRows, lengthRow, spareRow, wholeRows, pageRows, pageFault, pageTx, pageOf, placed, Counted}
+use Rattle.ledger.specs.Page.{readCount, writeCount, size, countRows, entryRows, headRows, lengthRow, spareRow, wholeRows, pageRows, pageFault, pageTx, pageOf, withPage}
+use Rattle.ledger.specs.Inner.{Counted}
 use Rattle.ledger.specs.declared.Transaction.{Transaction}
 use Rattle.ledger.specs.Services.{Counts, checkPage, readPage, indexRow, writeRows, writeFault, writePage}
-use Rattle.ledger.specs.Services as Services
+use Rattle.ledger.specs.Services.{noTransaction}
 
 -- ---- tests
 
@@ -215,7 +216,7 @@ module _ (p : List ℕ) where
   unfolding readPage
   read-taken e = rw e
 
-  pub read-refused : (n q : ℕ) → pageFault p ≡ fault n q → record { answer = checkPage p; transaction = Services.none } ≡ readPage p
+  pub read-refused : (n q : ℕ) → pageFault p ≡ fault n q → record { answer = checkPage p; transaction = noTransaction } ≡ readPage p
   unfolding readPage
   read-refused n q e = rw e
 
@@ -243,6 +244,6 @@ module _ (batch : List ℕ) (index : ℕ) (t : Transaction) where
   unfolding writePage
   write-refused n q e = rw e
 
-  pub write-done : wrong ≡ clear → record { answer = gives 0; batch = placed batch index (pageOf (valueTx t)) } ≡ writePage batch index t
+  pub write-done : wrong ≡ clear → record { answer = gives 0; batch = withPage batch index (pageOf (valueTx t)) } ≡ writePage batch index t
   unfolding writePage
   write-done e = rw e

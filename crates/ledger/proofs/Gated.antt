@@ -1,5 +1,5 @@
 -- The gate: which refusal it gives, and what it says that there is none. Assumes nothing.
-use mathlib.Core.Path.{_≡_, refl, sym, ap, _∙_}
+use mathlib.Core.Path.{_≡_, sym, ap, _∙_}
 use mathlib.Core.Bool.{Bool, true, false, not, _||_, _&&_}
 use mathlib.Core.List.{List, [], _∷_, _++_}
 use Prim.Native.Nat.{ℕ, _+_, _*_, _%_, _≤_, _<_}
@@ -11,8 +11,9 @@ use Rattle.lists.proofs.Searches.{missed}
 use Rattle.refusals.specs.Fault.{clear, fault, Row, row, first, inTurn, eachRow, movedFault}
 use Rattle.refusals.proofs.Rows.{row-there, row-passed, row-none, append-clear, append-fault, append-none, each-none, one-clear, test-none, first-moved, moved-none}
 use Rattle.ledger.specs.Page.{wholeRows, pageFault, pageAt}
-use Rattle.ledger.specs.State.{State, Level, keys, entry, wrongEntry, wrongLengths, stateRows}
-use Rattle.ledger.specs.Gate.{pages, txAt, again, beyond, rowsAt, pagesRows, bytesRow, frontRows, gateRows, gateFault, Ready, Batch}
+use Rattle.ledger.specs.State.{State, keys, entry, wrongEntry, wrongLengths, stateRows}
+use Rattle.ledger.specs.Gate.{pages, txAt, again, beyond, rowsAt, pagesRows, bytesRow, frontRows, gateRows, gateFault}
+use Rattle.ledger.specs.Inner.{Level, Ready, Batch}
 use Rattle.ledger.proofs.Faults.{or-none, and-both, whole-good, whole-bad, good-whole}
 
 -- ---- the rows of a page of a batch

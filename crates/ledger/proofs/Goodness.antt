@@ -8,9 +8,10 @@ use lib.Dec.{eqb}
 use borrow.Author.Tests.{eqb-true, eq-eqb, not-true}
 use Rattle.lists.specs.Search.{someIn}
 use Rattle.refusals.specs.Fault.{clear, first, isClear}
-use Rattle.refusals.proofs.Rows.{not-clear, clear-is, one-clear, append-clear, append-rest}
+use Rattle.refusals.proofs.Rows.{not-clear, clear-is, one-clear, append-clear, append-none, append-rest}
 use Rattle.octets.specs.Bytes.{field, weighed, set?}
-use Rattle.ledger.specs.Page.{readCount, writeCount, lengthRow, headRows, entryRows, spareRow, wholeRows, pageRows, pageFault, pageTx, countRows, Counted}
+use Rattle.ledger.specs.Page.{readCount, writeCount, lengthRow, headRows, readsRows, writesRows, entryRows, spareRow, wholeRows, pageRows, pageFault, pageTx, countRows}
+use Rattle.ledger.specs.Inner.{Counted}
 use Rattle.ledger.specs.Good.{framed, closed}
 use Rattle.ledger.proofs.Faults.{and-both, spareFrom, roomy, headFault, sound, is-counts}
 
@@ -51,14 +52,22 @@ module _ (p : List ℕ) where
       not-clear (pageFault p)
       (λ g. let o = sound p g in true≢false (sym (rw (o .spare, eq-eqb _ _ (o .head .sum))) ∙ e))
 
-  -- where they find nothing the entries decide
-  pub by-entered : framed p ≡ true → closed p ≡ true → isClear (first (entryRows (pageTx p))) ≡ isClear (pageFault p)
-  unfolding closed pageRows wholeRows
-  by-entered e k =
+  pub not-reads : isClear (first (readsRows (pageTx p))) ≡ false → false ≡ isClear (pageFault p)
+  unfolding entryRows
+  not-reads e =
+      not-clear (pageFault p)
+      (λ g. true≢false (sym (ap isClear (append-none (readsRows (pageTx p)) (writesRows (pageTx p)) (sound p g .entries) .0)) ∙ e))
+
+  -- where they find nothing the writes decide
+  pub by-writes : framed p ≡ true → closed p ≡ true → isClear (first (readsRows (pageTx p))) ≡ true
+      → isClear (first (writesRows (pageTx p))) ≡ isClear (pageFault p)
+  unfolding closed entryRows pageRows wholeRows
+  by-writes e k r =
       let f = frame e in
       let c = and-both (not (someIn (set? p) (spareFrom p) 508)) (eqb (weighed p 508) (field p 508 4)) k in
       let head : headFault p ≡ clear = sym (is-counts p (f .long) (eqb-true _ _ (c .1)) (f .mark) (f .three)) ∙ f .counts in
       ap isClear
       (sym
       (append-clear (lengthRow p ∷ headRows p) (entryRows (pageTx p) ++ (spareRow p ∷ [])) head
-      ∙ append-rest (entryRows (pageTx p)) (spareRow p ∷ []) (one-clear _ _ _ (not-true (someIn (set? p) (spareFrom p) 508) (c .0)))))
+      ∙ append-rest (entryRows (pageTx p)) (spareRow p ∷ []) (one-clear _ _ _ (not-true (someIn (set? p) (spareFrom p) 508) (c .0)))
+      ∙ append-clear (readsRows (pageTx p)) (writesRows (pageTx p)) (clear-is _ (sym r))))

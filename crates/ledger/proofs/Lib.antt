@@ -6,12 +6,13 @@ pub mod Laid
 pub mod Valued
 pub mod Placed
 pub mod Faults
-pub mod Goodness
 pub mod Exact
 pub mod Noticed
 pub mod Back
 pub mod Pages
 pub mod Rising
+pub mod Entering
+pub mod Goodness
 pub mod Zero
 pub mod Entries
 pub mod Gated

@@ -6,7 +6,8 @@ use native.Mathlib.Omega.{arith}
 use Rattle.lists.specs.Search.{seek, firstIn}
 use Rattle.refusals.specs.Fault.{clear, first}
 use Rattle.refusals.proofs.Rows.{append-none}
-use Rattle.ledger.specs.Page.{countRows, entryRows, lengthRow, headRows, wholeRows, pageRows, pageFault, pageOf, Counted}
+use Rattle.ledger.specs.Page.{countRows, entryRows, lengthRow, headRows, wholeRows, pageRows, pageFault, pageOf}
+use Rattle.ledger.specs.Inner.{Counted}
 use Rattle.ledger.proofs.Back.{good-back}
 use Rattle.ledger.proofs.Faults.{head-counted}
 

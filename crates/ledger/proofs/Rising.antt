@@ -24,24 +24,25 @@ pub record Rising (key : ℕ → ℕ) (n : ℕ) : Type 0 where
   pub rises : (i j : ℕ) → i < j → j < n → key i < key j
   pub small : (i : ℕ) → i < n → key i ≤ 1023
 
+-- keys of which none is below the least that may stand there rise
+pub rise : (key : ℕ → ℕ) (n : ℕ) → ((i : ℕ) → i < n → floorOf key i ≤ key i) → (i j : ℕ) → i < j → j < n → key i < key j
+unfolding floorOf
+rise key n floors i zero l h = absurd (omega arith)
+rise key n floors i (suc j) l h =
+    let f = floors (suc j) h in
+    ⊎-elim
+    (λ e. rw e (omega arith))
+    (λ m. let below = rise key n floors i j m (omega arith) in omega arith)
+    (eq-or-lt-of-le (le-of-suc-le-suc l))
+
 module _ (key : ℕ → ℕ) (n : ℕ) (none : someIn (outOfTurn key) 0 n ≡ false) where
   in-turn : (i : ℕ) → i < n → (floorOf key i ≤ key i) × (key i ≤ 1023)
   in-turn i h =
       let e = or-none (ltb (key i) (floorOf key i)) (ltb 1023 (key i)) (missed (outOfTurn key) n none i h) in
       (ltb-false (key i) (floorOf key i) (e .0), ltb-false 1023 (key i) (e .1))
 
-  rise : (i j : ℕ) → i < j → j < n → key i < key j
-  unfolding floorOf
-  rise i zero l h = absurd (omega arith)
-  rise i (suc j) l h =
-      let f = in-turn (suc j) h .0 in
-      ⊎-elim
-      (λ e. rw e (omega arith))
-      (λ m. let below = rise i j m (omega arith) in omega arith)
-      (eq-or-lt-of-le (le-of-suc-le-suc l))
-
   pub rising : Rising key n
-  rising = record { rises = rise; small = λ i h. in-turn i h .1 }
+  rising = record { rises = rise key n (λ i h. in-turn i h .0); small = λ i h. in-turn i h .1 }
 
 -- the last of such keys is the highest: m is their count, and x is the last
 module _ (key : ℕ → ℕ) (n k : ℕ) (r : Rising key n) (m x : ℕ) (count : m ≡ n) (last : x ≡ key (m - 1)) where

@@ -1,14 +1,15 @@
 -- The tickets of the pages of a batch, gathered in turn, and the search among them. Assumes nothing.
 use mathlib.Core.Path.{_≡_, ap₂, _∙_}
 use mathlib.Core.List.{List}
-use Prim.Native.Nat.{ℕ, _+_, _≤_, _<_}
+use Prim.Native.Nat.{ℕ, _+_, _<_}
 use native.Mathlib.Omega.{arith}
 use lib.ListN.{length, getD, set, length-set}
 use lib.Dec.{eqb}
 use Rattle.lists.specs.Search.{firstIn, someIn}
 use Rattle.lists.proofs.Searches.{some-same, first-same}
 use Rattle.lists.proofs.Stores.{front-more}
-use Rattle.ledger.specs.Gate.{txAt, again, TicketsOf}
+use Rattle.ledger.specs.Gate.{txAt, again}
+use Rattle.ledger.specs.Inner.{TicketsOf}
 
 -- the tickets of the first i pages stand in front
 pub record Gathering (batch tickets : List ℕ) (i : ℕ) : Type 0 where

@@ -1,11 +1,9 @@
 -- Document 01, 'Version check and commit'. Assumes nothing.
 use Prim.Native.Nat.{ℕ, suc}
-use mathlib.Core.Bool.{Bool}
+use mathlib.Core.Bool.{Bool, cond}
 use mathlib.Core.List.{List, [], _∷_, _++_}
-use mathlib.Core.Path.{_≡_}
 use lib.ListN.{length, drop}
 use lib.Dec.{eqb, ltb}
-use Rattle.lists.specs.Choice.{pick}
 use Rattle.lists.specs.Members.{all, those}
 use Rattle.refusals.specs.declared.Answer.{Answer}
 use Rattle.refusals.specs.Outcome.{Outcome, outcome}
@@ -34,7 +32,7 @@ stamp n i = record { number = n; place = i }
 
 -- "Its puts set value and version (n, i), also where the value is unchanged. Its deletes make the key absent"
 abbrev pub left : Stamp → Write → Entry
-left t w = pick (eqb (w .kind) 0) (record { version = at (t .number) (t .place); value = w .value }) gone
+left t w = cond (eqb (w .kind) 0) (record { version = at (t .number) (t .place); value = w .value }) gone
 
 unfoldable pub write : Stamp → State → List Write → State
 write t s [] = s
@@ -42,11 +40,11 @@ write t s (w ∷ ws) = write t (store s (w .key) (left t w)) ws
 
 -- "A page that fails .. changes nothing"
 unfoldable pub afterPage : ℕ → ℕ → State → Tx → State
-afterPage n i s x = pick (passes (versions s) x) (write (stamp n i) s (x .writes)) s
+afterPage n i s x = cond (passes (versions s) x) (write (stamp n i) s (x .writes)) s
 
--- "A passing page gets verdict 0." "A page that fails gets verdict 3"
-abbrev pub verdict : State → Tx → ℕ
-verdict s x = pick (passes (versions s) x) 0 3
+-- "A passing page gets checkVerdict 0." "A page that fails gets checkVerdict 3"
+abbrev pub checkVerdict : State → Tx → ℕ
+checkVerdict s x = cond (passes (versions s) x) 0 3
 
 -- "Take the pages in batch order, the page at index i as place i": the state after them, from place i on
 unfoldable pub commit : ℕ → ℕ → State → List Tx → State
@@ -56,17 +54,11 @@ commit n i s (x ∷ xs) = commit n (suc i) (afterPage n i s x) xs
 -- and their verdicts: each page "still uses up its place"
 unfoldable pub verdicts : ℕ → ℕ → State → List Tx → List ℕ
 verdicts n i s [] = []
-verdicts n i s (x ∷ xs) = verdict s x ∷ verdicts n (suc i) (afterPage n i s x) xs
+verdicts n i s (x ∷ xs) = checkVerdict s x ∷ verdicts n (suc i) (afterPage n i s x) xs
 
 -- "its result is the number of passing pages"
 unfoldable pub passed : List ℕ → ℕ
 passed vs = length (those (eqb 0) vs)
-
--- what committing transactions in turn leaves: the count of those that pass, the state, and the verdicts in front of the lent ones
-pub record Commitment (xs : List Tx) (s : State) (n : ℕ) (vs : List ℕ) (count : ℕ) (new : State) (filled : List ℕ) : Type 0 where
-  pub count-is : count ≡ passed (verdicts n 0 s xs)
-  pub state-is : new ≡ commit n 0 s xs
-  pub verdicts-are : filled ≡ verdicts n 0 s xs ++ drop (length xs) vs
 
 -- ---- the service
 

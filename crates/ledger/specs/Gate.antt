@@ -1,16 +1,15 @@
 -- Document 01, refusals 11 to 16: the gate of a batch, stage by stage. Assumes nothing.
-use Prim.Native.Nat.{ℕ, _*_, _/_, _%_, _≤_, _<_}
-use mathlib.Core.Bool.{Bool, false, not, _||_}
+use Prim.Native.Nat.{ℕ, _/_, _%_}
+use mathlib.Core.Bool.{Bool, not, _||_}
 use mathlib.Core.List.{List, [], _∷_, _++_}
-use mathlib.Core.Path.{_≡_}
 use lib.ListN.{length, getD}
 use lib.Dec.{eqb, ltb}
 use Rattle.lists.specs.Search.{someIn}
 use Rattle.lists.specs.Members.{any}
-use Rattle.refusals.specs.Fault.{Fault, clear, Row, row, first, inTurn, eachRow, moved}
+use Rattle.refusals.specs.Fault.{Fault, Row, row, first, inTurn, eachRow, moved}
 use Rattle.lists.specs.Tables.{tab}
 use Rattle.ledger.specs.Tx.{Tx}
-use Rattle.ledger.specs.Page.{pageTx, wholeRows, pageFault, pageAt}
+use Rattle.ledger.specs.Page.{pageTx, wholeRows, pageAt}
 use Rattle.ledger.specs.State.{State, keys, stateRows}
 
 -- m, the pages of a batch, and the transaction on each
@@ -67,20 +66,3 @@ gateRows own batch s n = frontRows batch s n ++ (own ++ pagesRows batch (keys s)
 
 abbrev pub gateFault : List Row → List ℕ → State → ℕ → Fault
 gateFault own batch s n = first (gateRows own batch s n)
-
--- ---- what the gate lets through
-
--- a good page whose keys are below k
-pub record Ready (k : ℕ) (p : List ℕ) : Type 0 where
-  pub good : pageFault p ≡ clear
-  pub within : beyond k (pageTx p) ≡ false
-
--- m such pages
-pub record Batch (k : ℕ) (batch : List ℕ) (m : ℕ) : Type 0 where
-  pub whole : length batch ≡ m * 512
-  pub few : m ≤ 64
-  pub each : (i : ℕ) → i < m → Ready k (pageAt batch i)
-
--- the tickets of the first m pages
-pub record TicketsOf (batch : List ℕ) (m : ℕ) (ts : List ℕ) : Type 0 where
-  pub each : (i : ℕ) → i < m → getD ts i 0 ≡ txAt batch i .ticket

@@ -7,3 +7,4 @@ pub mod Services
 pub mod State
 pub mod Gate
 pub mod Commit
+pub mod Inner

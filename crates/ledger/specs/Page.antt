@@ -1,8 +1,7 @@
 -- Document 01, 'Page layout': the transaction on a page, the page of a transaction, and the table of a page's refusals. Assumes nothing.
-use Prim.Native.Nat.{ℕ, _+_, _-_, _*_, _≤_}
-use mathlib.Core.Bool.{Bool, not, _||_, _&&_}
+use Prim.Native.Nat.{ℕ, _+_, _-_, _*_}
+use mathlib.Core.Bool.{not, _||_, _&&_}
 use mathlib.Core.List.{List, [], _∷_, _++_}
-use mathlib.Core.Path.{_≡_}
 use lib.ListN.{length, getD, take, drop, replicate}
 use lib.Dec.{eqb, ltb}
 use mir.Syntax.{w64}
@@ -84,15 +83,23 @@ countRows r w =
     row 5 0 (ltb 500 (size r w)) ∷
     []
 
--- "6: read keys not rising, or above 1023"; "7: read version of another form"; "8: write keys ..";
--- "9: kind neither 0 nor 1, or delete with value"
-unfoldable pub entryRows : Tx → List Row
-entryRows x =
+-- "6: read keys not rising, or above 1023"; "7: read version of another form"
+abbrev pub readsRows : Tx → List Row
+readsRows x =
     row 6 0 (someIn (outOfTurn (λ i. readOf (x .reads) i .key)) 0 (length (x .reads))) ∷
     row 7 0 (someIn (λ i. wrongVersion (readOf (x .reads) i .version)) 0 (length (x .reads))) ∷
+    []
+
+-- "8: write keys not rising, or above 1023"; "9: kind neither 0 nor 1, or delete with value"
+abbrev pub writesRows : Tx → List Row
+writesRows x =
     row 8 0 (someIn (outOfTurn (λ i. writeOf (x .writes) i .key)) 0 (length (x .writes))) ∷
     row 9 0 (someIn (λ i. wrongKind (writeOf (x .writes) i)) 0 (length (x .writes))) ∷
     []
+
+-- 6 to 9: the entries
+unfoldable pub entryRows : Tx → List Row
+entryRows x = readsRows x ++ writesRows x
 
 -- "2: check differs"; "3: mark or byte 3 wrong"; then 4 and 5
 unfoldable pub headRows : List ℕ → List Row
@@ -120,13 +127,6 @@ pageRows p = lengthRow p ∷ wholeRows p
 abbrev pub pageFault : List ℕ → Fault
 pageFault p = first (pageRows p)
 
--- a page of 512 bytes whose counts are good: what reading it where it lies asks
-pub record Counted (p : List ℕ) : Type 0 where
-  pub whole : length p ≡ 512
-  pub few-reads : readCount p ≤ 32
-  pub few-writes : writeCount p ≤ 32
-  pub room : size (readCount p) (writeCount p) ≤ 500
-
 -- ---- pages of a batch
 
 -- page i of a batch
@@ -134,5 +134,5 @@ abbrev pub pageAt : List ℕ → ℕ → List ℕ
 pageAt batch i = take 512 (drop (i * 512) batch)
 
 -- the batch with page i replaced: "every byte of the batch outside that page stays"
-abbrev pub placed : List ℕ → ℕ → List ℕ → List ℕ
-placed batch i page = take (i * 512) batch ++ (page ++ drop (i * 512 + 512) batch)
+abbrev pub withPage : List ℕ → ℕ → List ℕ → List ℕ
+withPage batch i page = take (i * 512) batch ++ (page ++ drop (i * 512 + 512) batch)

@@ -12,7 +12,7 @@ use Rattle.ledger.specs.declared.PageCheck.{PageCheck}
 use Rattle.ledger.specs.declared.PageCheck.the-variants.{Good, Bad}
 use Rattle.ledger.specs.declared.PageRead.{PageRead}
 use Rattle.ledger.specs.Tx.{valueTx, padded, noRead, noWrite}
-use Rattle.ledger.specs.Page.{countRows, entryRows, pageTx, pageFault, pageOf, placed}
+use Rattle.ledger.specs.Page.{countRows, entryRows, pageTx, pageFault, pageOf, withPage}
 
 -- ---- checking a page
 
@@ -37,11 +37,11 @@ pub record Taken : Type 0 where
   pub transaction : Transaction
 
 -- no transaction: what comes with a refusal
-abbrev pub none : Transaction
-none = record { ticket = 0; r = 0; w = 0; reads = replicate 32 noRead; writes = replicate 32 noWrite }
+abbrev pub noTransaction : Transaction
+noTransaction = record { ticket = 0; r = 0; w = 0; reads = replicate 32 noRead; writes = replicate 32 noWrite }
 
 unfoldable pub readPage : List ℕ → Taken
-readPage p = record { answer = checkPage p; transaction = after (pageFault p) (padded (pageTx p)) none }
+readPage p = record { answer = checkPage p; transaction = after (pageFault p) (padded (pageTx p)) noTransaction }
 
 abbrev pub taken : PageRead → Taken
 taken x = record { answer = checked (x .check); transaction = x .transaction }
@@ -49,7 +49,7 @@ taken x = record { answer = checked (x .check); transaction = x .transaction }
 -- ---- writing a page
 
 -- the outcome, and the lent batch at the end
-pub record Put : Type 0 where
+pub record WrittenPage : Type 0 where
   pub answer : Outcome ℕ
   pub batch : List ℕ
 
@@ -65,11 +65,11 @@ abbrev pub writeFault : Transaction → ℕ → ℕ → Fault
 writeFault t index pages = first (writeRows t index pages)
 
 -- a page that is written has no count to give
-unfoldable pub writePage : List ℕ → ℕ → Transaction → Put
+unfoldable pub writePage : List ℕ → ℕ → Transaction → WrittenPage
 writePage batch index t =
     let wrong = writeFault t index (length batch / 512) in
-    record { answer = judged wrong 0; batch = after wrong (placed batch index (pageOf (valueTx t))) batch }
+    record { answer = judged wrong 0; batch = after wrong (withPage batch index (pageOf (valueTx t))) batch }
 
 -- the answer of the writer as an outcome, with the batch as it is at the end
-abbrev pub put : Answer → List ℕ → Put
+abbrev pub put : Answer → List ℕ → WrittenPage
 put a b = record { answer = outcome a; batch = b }

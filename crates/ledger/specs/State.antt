@@ -2,7 +2,6 @@
 use Prim.Native.Nat.{ℕ}
 use mathlib.Core.Bool.{Bool, not, _&&_, _||_}
 use mathlib.Core.List.{List, _∷_}
-use mathlib.Core.Path.{_≡_}
 use lib.ListN.{length, getD, set}
 use lib.Dec.{eqb, leb, ltb}
 use lib.IntN.{ℤ, pos}
@@ -21,11 +20,6 @@ pub record State : Type 0 where
 -- the three lists as one state
 abbrev pub stateOf : List ℕ → List ℕ → List ℤ → State
 stateOf b p v = record { blocks = b; places = p; values = v }
-
--- three lists of one length
-pub record Level (b p : List ℕ) (v : List ℤ) : Type 0 where
-  pub places : length p ≡ length b
-  pub values : length v ≡ length b
 
 -- "Absent is block 0, place 65535, value 0"
 abbrev pub gone : Entry
@@ -57,8 +51,11 @@ abbrev pub isGone : Entry → Bool
 isGone e = same (e .version) absent && isZero (e .value)
 
 -- "Every other entry has a place of 0 to 63"; "every present entry must have a block number below n"
+abbrev pub present : ℕ → Version → Bool
+present n v = ordinary v && ltb (v .block) n
+
 abbrev pub wrongEntry : ℕ → Entry → Bool
-wrongEntry n e = not (isGone e || (ordinary (e .version) && ltb (e .version .block) n))
+wrongEntry n e = not (isGone e || present n (e .version))
 
 -- three lists that are unequal, empty or over 1024 long
 abbrev pub wrongLengths : State → Bool

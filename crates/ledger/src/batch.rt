@@ -14,7 +14,8 @@ ghost use Rattle.lists.specs.Search.{firstIn, someIn};
 ghost use Rattle.refusals.specs.Fault.{clear, first, finding, inTurn};
 ghost use Rattle.ledger.specs.Page.{pageAt, pageTx, pageFault};
 ghost use Rattle.ledger.specs.State.{stateOf};
-ghost use Rattle.ledger.specs.Gate.{pages, txAt, rowsAt, beyond, bytesRow, frontRows, pagesRows, TicketsOf};
+ghost use Rattle.ledger.specs.Gate.{pages, txAt, rowsAt, beyond, bytesRow, frontRows, pagesRows};
+ghost use Rattle.ledger.specs.Inner.{TicketsOf};
 
 // 11: a batch that is too long, or not of whole pages.
 fn length_fault(batch: &[u8]) -> Finding

@@ -17,9 +17,10 @@ ghost use lib.ListN.{length, getD};
 ghost use Rattle.lists.specs.Search.{firstIn};
 ghost use Rattle.ledger.specs.Page.{pageTx};
 ghost use Rattle.ledger.specs.Tx.{readOf, wrongKind};
-ghost use Rattle.ledger.specs.State.{stateOf, versionsIn, Level};
-ghost use Rattle.ledger.specs.Gate.{pages, txsIn, Ready, Batch};
-ghost use Rattle.ledger.specs.Commit.{names, passes, left, write, afterPage, Commitment, committed, commitBatch};
+ghost use Rattle.ledger.specs.State.{stateOf, versionsIn};
+ghost use Rattle.ledger.specs.Gate.{pages, txsIn};
+ghost use Rattle.ledger.specs.Commit.{names, passes, left, write, afterPage, committed, commitBatch};
+ghost use Rattle.ledger.specs.Inner.{Level, Ready, Batch, Commitment};
 
 // The verdicts of commit.
 pub const PASSED: u8 = 0;

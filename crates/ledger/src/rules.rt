@@ -37,8 +37,9 @@ pub fn kind_wrong(x: Write) -> bool
     if x.kind == PUT {
         return false;
     }
-    if x.kind != DELETE {
+    // The value between two tests of the kind, so that the kind is read as one word.
+    if x.value != 0 {
         return true;
     }
-    x.value != 0
+    x.kind != DELETE
 }

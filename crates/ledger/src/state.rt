@@ -4,12 +4,13 @@ use crate::Version;
 use crate::layout;
 use refusals::Finding;
 ghost use mathlib.Core.Path.{_≡_};
+ghost use mathlib.Core.Bool.{not};
 ghost use Prim.Native.Nat.{_<_};
 ghost use lib.ListN.{length, getD};
-ghost use Rattle.lists.specs.Search.{firstIn};
+ghost use Rattle.lists.specs.Search.{firstIn, someIn};
 ghost use Rattle.ledger.specs.Version.{at};
 ghost use Rattle.refusals.specs.Fault.{first, finding};
-ghost use Rattle.ledger.specs.State.{stateOf, entry, store, isGone, wrongEntry, wrongLengths, stateRows};
+ghost use Rattle.ledger.specs.State.{stateOf, versionsIn, entry, store, isGone, present, wrongEntry, wrongLengths, stateRows};
 
 // Whether the three lists are unequal, empty or too long.
 pub fn lengths_wrong(blocks: &[u32], places: &[u16], values: &[i64]) -> bool
@@ -47,6 +48,13 @@ impl Entry {
     }
 }
 
+// Whether a version is one that a present entry may have: a place of 0 to 63 of a block below n.
+fn present(v: Version, n: u32) -> bool
+    ensures { λ r. ⌜ r ≡ present n v ⌝ }
+{
+    v.ordinary() & (v.block < n)
+}
+
 // An entry that is neither absent nor at a place of 0 to 63 of a block below n.
 fn entry_wrong(e: Entry, n: u32) -> bool
     ensures { λ r. ⌜ r ≡ wrongEntry n e ⌝ }
@@ -78,7 +86,25 @@ pub fn entry_at(blocks: &[u32], places: &[u16], values: &[i64], key: usize) -> E
     }
 }
 
-// The lowest key whose entry is wrong; the count of keys where none is.
+// Whether each key has a version that a present entry may have. None ends the loop, so it is vector code.
+fn all_present(blocks: &[u32], places: &[u16], n: u32) -> bool
+    requires { ⌜ length (now places) ≡ length (now blocks) ⌝ }
+    ensures { λ r. ⌜
+        r
+        ≡ not (someIn (λ k. not (present n (versionsIn (now (blocks .entry)) (now (places .entry)) k))) 0
+        (length (now (blocks .entry))))
+        ⌝ }
+{
+    let mut other = false;
+    let mut k = 0;
+    while k < blocks.len() {
+        other = other | !present(version_at(blocks, places, k), n);
+        k += 1;
+    }
+    !other
+}
+
+// The lowest key whose entry is wrong; the count of keys where none is. Where all are present there is none.
 fn first_wrong(blocks: &[u32], places: &[u16], values: &[i64], n: u32) -> usize
     requires { ⌜ (length (now places) ≡ length (now blocks)) × (length (now values) ≡ length (now blocks)) ⌝ }
     ensures { λ r. ⌜ (
@@ -86,6 +112,9 @@ fn first_wrong(blocks: &[u32], places: &[u16], values: &[i64], n: u32) -> usize
         r ≡ firstIn (λ k. wrongEntry n (entry s k)) 0 (length (now (blocks .entry)))
         ) ⌝ }
 {
+    if all_present(blocks, places, n) {
+        return blocks.len();
+    }
     let mut k = 0;
     while k < blocks.len() {
         if entry_wrong(entry_at(blocks, places, values, k), n) {

@@ -1,5 +1,5 @@
 -- Laws of members: of tests over them, of those that pass, of rearrangements, of lists without repetition, of the first numbers. Assumes nothing.
-use mathlib.Core.Bool.{Bool, true, false, not, _&&_, _||_}
+use mathlib.Core.Bool.{Bool, true, false, not, _&&_, _||_, cond}
 use mathlib.Core.List.{List, [], _∷_, _++_, append-nil, map, List·Memᴰ·head, List·Memᴰ·tail, List·Memᴰ·cases-cons, List·Memᴰ·not-nil, List·Memᴰ·append-cases, List·Memᴰ·eq-of-singleton, Memᴰ·append-left, Memᴰ·append-right, List·Permᴰ, List·Permᴰ·nil, List·Permᴰ·cons, List·Permᴰ·swap, List·Permᴰ·trans, Permᴰ·refl, Permᴰ·symm, Permᴰ·middle}
 use mathlib.Core.Logic.{_⊎_, inl, inr, ⊎-elim, _↔_}
 use mathlib.Core.Path.{_≡_, refl, sym, ap, ap₂, subst, _∙_}
@@ -9,7 +9,6 @@ use native.Mathlib.Omega.{arith}
 use lib.ListN.{length, getD, take, length-append}
 use lib.Seq.{take-suc}
 use lib.Dec.{T, T-not, eqb, eqb-refl, eqb→eq}
-use Rattle.lists.specs.Choice.{pick}
 use Rattle.lists.specs.Members.{_∈_, any, all, those, distinct, upto}
 use Rattle.lists.proofs.Tests.{both, and-left, and-right, or-left, or-right, or-cases, or-false, by-test, decide, clash, eqb-sym, differ, unequal}
 
@@ -140,7 +139,7 @@ module _ {A : Type 0} where
   those-parted p q [] h = List·Permᴰ·nil
   those-parted p q (x ∷ xs) h = go (p x) (q x) (h x) (those-parted p q xs h)
     where
-      go : (b c : Bool) → c ≡ not b → List·Permᴰ xs (those p xs ++ those q xs) → List·Permᴰ (x ∷ xs) (pick b (x ∷ those p xs) (those p xs) ++ pick c (x ∷ those q xs) (those q xs))
+      go : (b c : Bool) → c ≡ not b → List·Permᴰ xs (those p xs ++ those q xs) → List·Permᴰ (x ∷ xs) (cond b (x ∷ those p xs) (those p xs) ++ cond c (x ∷ those q xs) (those q xs))
       go true true e below = absurd (clash e)
       go true false e below = List·Permᴰ·cons refl below
       go false true e below = List·Permᴰ·trans (List·Permᴰ·cons refl below) (Permᴰ·symm (Permᴰ·middle x (those p xs) (those q xs)))
@@ -157,7 +156,7 @@ module _ {A : Type 0} where
 
   pub those-same : (p q : A → Bool) (xs : List A) → ((x : A) → x ∈ xs → p x ≡ q x) → those p xs ≡ those q xs
   those-same p q [] h = refl
-  those-same p q (x ∷ xs) h = ap₂ (λ b l. pick b (x ∷ l) l) (h x (List·Memᴰ·head refl)) (those-same p q xs (λ y m. h y (List·Memᴰ·tail m)))
+  those-same p q (x ∷ xs) h = ap₂ (λ b l. cond b (x ∷ l) l) (h x (List·Memᴰ·head refl)) (those-same p q xs (λ y m. h y (List·Memᴰ·tail m)))
 
   -- ---- rearrangements
 

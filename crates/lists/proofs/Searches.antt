@@ -1,6 +1,6 @@
 -- Laws of searches by index. Assumes nothing.
 use mathlib.Core.Path.{_≡_, refl, sym, ap, ap₂, _∙_}
-use mathlib.Core.Bool.{Bool, true, false, not, _&&_, _||_, false≢true}
+use mathlib.Core.Bool.{Bool, true, false, not, _&&_, _||_, false≢true, cond}
 use mathlib.Core.List.{List, [], _∷_}
 use Prim.Native.Nat.{ℕ, zero, suc, _+_, _-_, _≤_, _<_}
 use native.Mathlib.Nat.{sub-self, sub-zero, suc-add, add-suc, add-zero, zero-add}
@@ -9,13 +9,12 @@ use native.Mathlib.Omega.{arith}
 use lib.ListN.{length, getD}
 use lib.Dec.{ltb, leb·suc-suc}
 use borrow.Author.Tests.{lt-ltb, le-ltb, ltb-false}
-use Rattle.lists.specs.Choice.{pick}
 use Rattle.lists.specs.Members.{any, all}
 use Rattle.lists.specs.Search.{seek, firstIn, someIn}
 
 -- what a searching loop needs: at a hit it stops, at a miss it goes on, at the end it gives the end
 module _ (bad : ℕ → Bool) where
-  step : (i to : ℕ) → i < to → firstIn bad i to ≡ pick (bad i) i (firstIn bad (i + 1) to)
+  step : (i to : ℕ) → i < to → firstIn bad i to ≡ cond (bad i) i (firstIn bad (i + 1) to)
   unfolding firstIn
   step i to h = let e : to - i ≡ suc (to - suc i) = omega arith in rw (add-one, e)
 
@@ -34,7 +33,7 @@ module _ (bad : ℕ → Bool) where
   within-seek i zero = omega arith
   within-seek i (suc k) = go (bad i) (within-seek (suc i) k)
     where
-      go : (b : Bool) → seek bad (suc i) k ≤ suc i + k → pick b i (seek bad (suc i) k) ≤ i + suc k
+      go : (b : Bool) → seek bad (suc i) k ≤ suc i + k → cond b i (seek bad (suc i) k) ≤ i + suc k
       go true ih = omega arith
       go false ih = omega arith
 
@@ -63,7 +62,7 @@ module _ (bad : ℕ → Bool) (from to x : ℕ) (found : x ≡ firstIn bad from 
 pub seek-same : (f g : ℕ → Bool) (i k : ℕ) → ((j : ℕ) → j < i + k → f j ≡ g j) → seek f i k ≡ seek g i k
 unfolding seek
 seek-same f g i zero h = refl
-seek-same f g i (suc k) h = ap₂ (λ b x. pick b i x) (h i (omega arith)) (seek-same f g (suc i) k (λ j l. h j (omega arith)))
+seek-same f g i (suc k) h = ap₂ (λ b x. cond b i x) (h i (omega arith)) (seek-same f g (suc i) k (λ j l. h j (omega arith)))
 
 pub some-same : (f g : ℕ → Bool) (n : ℕ) → ((j : ℕ) → j < n → f j ≡ g j) → someIn f 0 n ≡ someIn g 0 n
 unfolding firstIn
@@ -90,7 +89,7 @@ missed-seek bad i (suc k) h j l = go (bad i) refl h (λ q m o. missed-seek bad (
   where
     go : (b : Bool)
         → bad i ≡ b
-        → i + suc k ≤ pick b i (seek bad (suc i) k)
+        → i + suc k ≤ cond b i (seek bad (suc i) k)
         → (suc i + k ≤ seek bad (suc i) k → (m : ℕ) → m < k → bad (suc i + m) ≡ false)
         → (m : ℕ)
         → m < suc k
@@ -109,9 +108,12 @@ pub missed : (bad : ℕ → Bool) (n : ℕ) → someIn bad 0 n ≡ false → (i 
 missed bad n e i h = missed-from bad 0 n e i (omega arith) h
 
 -- and one that misses at each index finds none
-pub none-at : (bad : ℕ → Bool) (n : ℕ) → ((i : ℕ) → i < n → bad i ≡ false) → someIn bad 0 n ≡ false
+pub first-none : (bad : ℕ → Bool) (n : ℕ) → ((i : ℕ) → i < n → bad i ≡ false) → firstIn bad 0 n ≡ n
 unfolding firstIn
-none-at bad n h = le-ltb (seek bad 0 (n - 0)) n (omega (arith, seek-none bad 0 (n - 0) (λ j l. rw zero-add (h j (omega arith)))))
+first-none bad n h = omega (arith, seek-none bad 0 (n - 0) (λ j l. rw zero-add (h j (omega arith))))
+
+pub none-at : (bad : ℕ → Bool) (n : ℕ) → ((i : ℕ) → i < n → bad i ≡ false) → someIn bad 0 n ≡ false
+none-at bad n h = le-ltb (firstIn bad 0 n) n (omega (arith, first-none bad n h))
 
 pub some-at : (bad : ℕ → Bool) (n i : ℕ) → i < n → bad i ≡ true → someIn bad 0 n ≡ true
 some-at bad n i h e = go (someIn bad 0 n) refl
@@ -128,9 +130,9 @@ holds-seek bad i (suc k) h = go (bad i) refl h (λ q. holds-seek bad (suc i) k q
   where
     go : (b : Bool)
         → bad i ≡ b
-        → pick b i (seek bad (suc i) k) < i + suc k
+        → cond b i (seek bad (suc i) k) < i + suc k
         → (seek bad (suc i) k < suc i + k → bad (seek bad (suc i) k) ≡ true)
-        → bad (pick b i (seek bad (suc i) k)) ≡ true
+        → bad (cond b i (seek bad (suc i) k)) ≡ true
     go true e q ih = e
     go false e q ih = ih (omega arith)
 
@@ -147,7 +149,7 @@ before-seek bad i (suc k) j h = go (bad i) refl j h (λ l o. before-seek bad (su
     go : (b : Bool)
         → bad i ≡ b
         → (l : ℕ)
-        → i + l < pick b i (seek bad (suc i) k)
+        → i + l < cond b i (seek bad (suc i) k)
         → ((m : ℕ) → suc i + m < seek bad (suc i) k → bad (suc i + m) ≡ false)
         → bad (i + l) ≡ false
     go true e l o ih = absurd (omega arith)
@@ -166,7 +168,7 @@ seek-next bad i zero = refl
 seek-next bad i (suc k) = go (bad (suc i)) (seek-next bad (suc i) k)
   where
     go : (b : Bool) → seek bad (suc (suc i)) k ≡ suc (seek (λ j. bad (suc j)) (suc i) k)
-        → pick b (suc i) (seek bad (suc (suc i)) k) ≡ suc (pick b i (seek (λ j. bad (suc j)) (suc i) k))
+        → cond b (suc i) (seek bad (suc (suc i)) k) ≡ suc (cond b i (seek (λ j. bad (suc j)) (suc i) k))
     go true ih = refl
     go false ih = ih
 
@@ -174,7 +176,7 @@ some-first : (bad : ℕ → Bool) (n : ℕ) → someIn bad 0 (suc n) ≡ (bad 0 
 unfolding firstIn
 some-first bad n = rw (sub-zero (suc n), sub-zero n) (go (bad 0))
   where
-    go : (b : Bool) → ltb (pick b 0 (seek bad 1 n)) (suc n) ≡ (b || ltb (seek (λ i. bad (suc i)) 0 n) n)
+    go : (b : Bool) → ltb (cond b 0 (seek bad 1 n)) (suc n) ≡ (b || ltb (seek (λ i. bad (suc i)) 0 n) n)
     go true = lt-ltb 0 (suc n) (omega arith)
     go false = rw (seek-next bad 0 n, leb·suc-suc)
 

@@ -1,12 +1,11 @@
 -- Laws of tests: what `&&`, `||`, `not`, a choice and an equality of numbers say. Assumes nothing.
-use mathlib.Core.Bool.{Bool, true, false, not, _&&_, _||_}
+use mathlib.Core.Bool.{Bool, true, false, not, _&&_, _||_, cond}
 use mathlib.Core.Logic.{_⊎_, inl, inr}
 use mathlib.Core.Path.{_≡_, refl, sym, subst}
 use Prim.Native.Nat.{ℕ, _≤_}
 use native.Mathlib.Omega.{arith}
 use lib.Dec.{T, T-not, not-T, eqb, leb, ltb, eqb-refl, eqb→eq}
 use borrow.Author.Tests.{ltb-true, ltb-false, lt-leb, le-leb, eq-eqb, ne-eqb}
-use Rattle.lists.specs.Choice.{pick}
 
 pub both : (a b : Bool) → T a → T b → T (a && b)
 both true b p q = q
@@ -101,7 +100,7 @@ not-not false = refl
 
 module _ {B : Type 0} where
   -- what holds of x where b passes, and of y where it fails, holds of the choice between them
-  pub by-test : (P : B → Type 0) (b : Bool) {x y : B} → (T b → P x) → (T (not b) → P y) → P (pick b x y)
+  pub by-test : (P : B → Type 0) (b : Bool) {x y : B} → (T b → P x) → (T (not b) → P y) → P (cond b x y)
   by-test P true f g = f tt
   by-test P false f g = g tt
 

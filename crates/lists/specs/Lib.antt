@@ -1,5 +1,4 @@
 pub mod Ascii
-pub mod Choice
 pub mod Members
 pub mod Search
 pub mod Tables

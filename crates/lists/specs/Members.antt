@@ -1,10 +1,9 @@
 -- Members of a list: tests over them, those that pass a test, lists without repetition, the first numbers. Assumes nothing.
-use mathlib.Core.Bool.{Bool, true, false, not, _&&_, _||_}
+use mathlib.Core.Bool.{Bool, true, false, not, _&&_, _||_, cond}
 use mathlib.Core.List.{List, [], _∷_, _++_, List·Memᴰ}
 use mathlib.Core.Logic.{_↔_}
 use Prim.Native.Nat.{ℕ, zero, suc}
 use lib.Dec.{eqb}
-use Rattle.lists.specs.Choice.{pick}
 
 module _ {A : Type 0} where
   infixl 50 _∈_
@@ -25,7 +24,7 @@ module _ {A : Type 0} where
   -- those of xs that pass p, as they stand
   abbrev pub those : (A → Bool) → List A → List A
   those p [] = []
-  those p (x ∷ xs) = pick (p x) (x ∷ those p xs) (those p xs)
+  those p (x ∷ xs) = cond (p x) (x ∷ those p xs) (those p xs)
 
   -- xs and ys have the same members, however listed
   abbrev pub Alike : List A → List A → Type 0

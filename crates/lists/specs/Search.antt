@@ -1,13 +1,12 @@
 -- Searches by index: where the first index stands at which a test holds. Assumes nothing.
-use mathlib.Core.Bool.{Bool}
+use mathlib.Core.Bool.{Bool, cond}
 use Prim.Native.Nat.{ℕ, zero, suc, _-_}
 use lib.Dec.{ltb}
-use Rattle.lists.specs.Choice.{pick}
 
 -- the first of the k indexes from i on at which the test holds, i + k where it holds at none
 unfoldable pub seek : (ℕ → Bool) → ℕ → ℕ → ℕ
 seek bad i zero = i
-seek bad i (suc k) = pick (bad i) i (seek bad (suc i) k)
+seek bad i (suc k) = cond (bad i) i (seek bad (suc i) k)
 
 -- the first index from `from` up to, not including, `to` at which the test holds, `to` where it holds at none
 unfoldable pub firstIn : (ℕ → Bool) → ℕ → ℕ → ℕ

@@ -1,16 +1,14 @@
 -- What the node's services leave in what was lent to them, by the outcomes of the services below. Assumes nothing.
 use Prim.Native.Nat.{ℕ}
 use mathlib.Core.List.{List, [], _∷_, map}
-use lib.ListN.{length, getD}
+use lib.ListN.{getD}
 use lib.IntN.{ℤ, pos}
-use Rattle.refusals.specs.Outcome.{Outcome, gives, refuses}
-use Rattle.tonnage.specs.Services.{readText, Written}
-use Rattle.ledger.specs.declared.Read.{Read}
-use Rattle.ledger.specs.declared.Write.{Write}
+use Rattle.refusals.specs.Outcome.{gives, refuses}
+use Rattle.tonnage.specs.Services.{readText, WrittenText}
 use Rattle.ledger.specs.declared.Transaction.{Transaction}
 use Rattle.lists.specs.Tables.{tab}
 use Rattle.ledger.specs.Version.{at}
-use Rattle.ledger.specs.Services.{readPage, Put}
+use Rattle.ledger.specs.Services.{readPage, WrittenPage}
 use Rattle.ledger.specs.State.{State}
 use Rattle.ledger.specs.Commit.{Commits}
 use Rattle.planning.specs.Plan.{Plans}
@@ -82,14 +80,14 @@ pub record WrittenLeft : Type 0 where
   pub word : ℕ
   pub text : List ℕ
 
-abbrev pub writtenLeft : Written → WrittenLeft
+abbrev pub writtenLeft : WrittenText → WrittenLeft
 writtenLeft w = record { word = word (w .answer); text = w .text }
 
 pub record PutLeft : Type 0 where
   pub word : ℕ
   pub batch : List ℕ
 
-abbrev pub putLeft : Put → PutLeft
+abbrev pub putLeft : WrittenPage → PutLeft
 putLeft w = record { word = word (w .answer); batch = w .batch }
 
 pub record CommitLeft : Type 0 where

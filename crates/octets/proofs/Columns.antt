@@ -9,7 +9,7 @@ use native.Mathlib.Omega.{arith}
 use lib.ListN.{length, getD, set, length-set, take, drop, length-take, length-drop, replicate, getD-replicate}
 use lib.Seq.{getD-set-same, getD-set-other, getD-take, getD-drop}
 use Rattle.octets.specs.Bytes.{weighed, Small}
-use Rattle.octets.specs.Columns.{gathered, Lanes, Room, Added}
+use Rattle.octets.specs.Columns.{byColumns, Lanes, Room, Added}
 
 -- the sum of the first n elements
 unfoldable pub summed : List ℕ → ℕ → ℕ
@@ -17,9 +17,9 @@ summed l zero = 0
 summed l (suc n) = summed l n + getD l n 0
 
 -- one column more, and a bound on what it adds
-pub gathered-next : (sums runs : List ℕ) (c : ℕ) → gathered sums runs (c + 1) ≡ gathered sums runs c + ((c + 1) * getD sums c 0 + 48 * getD runs c 0)
-unfolding gathered
-gathered-next sums runs c = ap (gathered sums runs) (add-one c)
+pub gathered-next : (sums runs : List ℕ) (c : ℕ) → byColumns sums runs (c + 1) ≡ byColumns sums runs c + ((c + 1) * getD sums c 0 + 48 * getD runs c 0)
+unfolding byColumns
+gathered-next sums runs c = ap (byColumns sums runs) (add-one c)
 
 pub column-le : {a b : ℕ} → a ≤ 48 → b < 65536 → a * b ≤ 3145680
 column-le h k = mul-le-mul h (le-pred-of-lt k)
@@ -31,8 +31,8 @@ module _ (row sums runs sums′ runs′ : List ℕ) (a : Added row sums runs sum
   summed-added zero h = refl
   summed-added (suc n) h = omega (arith, summed-added n (omega arith), a .sums-more n h)
 
-  gathered-added : (n : ℕ) → n ≤ 48 → gathered sums′ runs′ n ≡ gathered sums runs n + weighed row n + 48 * summed sums n
-  unfolding gathered weighed summed
+  gathered-added : (n : ℕ) → n ≤ 48 → byColumns sums′ runs′ n ≡ byColumns sums runs n + weighed row n + 48 * summed sums n
+  unfolding byColumns weighed summed
   gathered-added zero h = refl
   gathered-added (suc n) h =
       rw (a .sums-more n h, a .runs-more n h)
@@ -130,10 +130,10 @@ pub record Columned (p : List ℕ) (m : ℕ) (sums runs : List ℕ) (r : ℕ) : 
   pub runs-long : length runs ≡ 48
   pub sums-low : (c : ℕ) → c < 48 → getD sums c 0 ≤ 255 * (10 - r)
   pub runs-low : (c : ℕ) → c < 48 → getD runs c 0 ≤ 2550 * (10 - r)
-  pub whole : gathered sums runs 48 + r * 48 * summed sums 48 + weighed p (r * 48) ≡ weighed p (m * 48)
+  pub whole : byColumns sums runs 48 + r * 48 * summed sums 48 + weighed p (r * 48) ≡ weighed p (m * 48)
 
 pub columned-begins : (p : List ℕ) (m : ℕ) → m ≤ 10 → Columned p m (replicate 48 0) (replicate 48 0) m
-unfolding gathered summed
+unfolding byColumns summed
 columned-begins p m h = record {
   few = h;
   in-rows = omega arith;
@@ -151,7 +151,7 @@ module _ (p : List ℕ) (m : ℕ) (sums runs : List ℕ) (r : ℕ) (k : Columned
     runs-lane = λ c h. omega (arith, k .runs-low c h);
   }
 
-  pub columned-ends : r ≤ 0 → gathered sums runs 48 ≡ weighed p (m * 48)
+  pub columned-ends : r ≤ 0 → byColumns sums runs 48 ≡ weighed p (m * 48)
   columned-ends h =
       let z : r ≡ 0 = omega arith in
       let e = rw z at (k .whole) in

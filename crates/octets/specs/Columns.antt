@@ -5,9 +5,9 @@ use Prim.Native.Nat.{ℕ, zero, suc, _+_, _*_, _<_}
 use lib.ListN.{length, getD}
 
 -- the sum over the first n columns: a column's sum by its weight in the first row, and 48 times its running sum, where a byte stands once for each row before its own
-unfoldable pub gathered : List ℕ → List ℕ → ℕ → ℕ
-gathered sums runs zero = 0
-gathered sums runs (suc n) = gathered sums runs n + ((n + 1) * getD sums n 0 + 48 * getD runs n 0)
+unfoldable pub byColumns : List ℕ → List ℕ → ℕ → ℕ
+byColumns sums runs zero = 0
+byColumns sums runs (suc n) = byColumns sums runs n + ((n + 1) * getD sums n 0 + 48 * getD runs n 0)
 
 -- each column's sums are of 16 bits
 pub record Lanes (sums runs : List ℕ) : Type 0 where

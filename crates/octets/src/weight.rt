@@ -5,7 +5,7 @@ ghost use lib.ListN.{length};
 ghost use mathlib.Core.Bool.{false};
 ghost use Rattle.lists.specs.Search.{someIn};
 ghost use Rattle.octets.specs.Bytes.{weighed, set?};
-ghost use Rattle.octets.specs.Columns.{Lanes, Room, Added, gathered};
+ghost use Rattle.octets.specs.Columns.{Lanes, Room, Added, byColumns};
 
 // The bytes of a row, the whole rows before the check, and where the bytes behind them begin.
 const COLUMNS: usize = 48;
@@ -43,7 +43,7 @@ fn add_row(row: &[u8], sums: &mut [u16; COLUMNS], runs: &mut [u16; COLUMNS])
 // The weighted sum of the columns.
 fn gather(sums: &[u16; COLUMNS], runs: &[u16; COLUMNS]) -> u32
     requires { ⌜ Lanes (now sums) (now runs) ⌝ }
-    ensures { λ r. ⌜ r ≡ gathered (now (sums .entry)) (now (runs .entry)) 48 ⌝ }
+    ensures { λ r. ⌜ r ≡ byColumns (now (sums .entry)) (now (runs .entry)) 48 ⌝ }
 {
     let mut total: u32 = 0;
     let mut c = 0;

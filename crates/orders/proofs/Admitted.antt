@@ -1,5 +1,5 @@
 -- Laws of admission: what is kept has no cycle, and what is thrown out closes one. Assumes nothing.
-use mathlib.Core.Bool.{Bool, true, false, not}
+use mathlib.Core.Bool.{Bool, true, false, not, cond}
 use mathlib.Core.List.{List, [], _∷_, _++_, List·Memᴰ·head, List·Memᴰ·tail, List·Memᴰ·cases-cons}
 use mathlib.Core.Logic.{_⊎_, inl, inr, ⊎-elim}
 use mathlib.Core.Path.{_≡_, refl, sym, _∙_}
@@ -7,7 +7,6 @@ use Prim.Native.Nat.{ℕ, suc, _+_, _≤_}
 use native.Mathlib.Omega.{arith}
 use lib.ListN.{length}
 use lib.Dec.{T, T-not, eqb}
-use Rattle.lists.specs.Choice.{pick}
 use Rattle.lists.specs.Members.{_∈_, distinct}
 use Rattle.lists.proofs.Tests.{by-test, eqb-sym}
 use Rattle.lists.proofs.Membership.{apart, rest, make}
@@ -26,11 +25,11 @@ module _ (before : ℕ → ℕ → Bool) where
           (b : Bool) →
           admit before kept (is ++ js) ≡ admit before (admit before kept is) js →
           admit before (i ∷ kept) (is ++ js) ≡ admit before (admit before (i ∷ kept) is) js →
-          pick b (admit before kept (is ++ js)) (admit before (i ∷ kept) (is ++ js)) ≡ admit before (pick b (admit before kept is) (admit before (i ∷ kept) is)) js
+          cond b (admit before kept (is ++ js)) (admit before (i ∷ kept) (is ++ js)) ≡ admit before (cond b (admit before kept is) (admit before (i ∷ kept) is)) js
       step true p q = p
       step false p q = q
 
-  pub admit-last : (kept is : List ℕ) (i : ℕ) → admit before kept (is ++ (i ∷ [])) ≡ pick (cyclic before (i ∷ admit before kept is)) (admit before kept is) (i ∷ admit before kept is)
+  pub admit-last : (kept is : List ℕ) (i : ℕ) → admit before kept (is ++ (i ∷ [])) ≡ cond (cyclic before (i ∷ admit before kept is)) (admit before kept is) (i ∷ admit before kept is)
   unfolding admit
   admit-last kept is i = admit-append kept is (i ∷ [])
 

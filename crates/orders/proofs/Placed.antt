@@ -11,11 +11,11 @@ use Rattle.lists.proofs.Tests.{is-false, of-true}
 use Rattle.lists.proofs.Membership.{all-in, all-out}
 use Rattle.orders.specs.Chain.{Cycle}
 use Rattle.orders.specs.Arrange.{without, free, schedule}
-use Rattle.orders.specs.Walk.{Holds, Free, Next}
+use Rattle.orders.specs.Walk.{Lists, Free, Next}
 use Rattle.orders.proofs.Chains.{free-one}
 use Rattle.orders.proofs.Arranged.{schedule-alike, arrange-next, arrange-fuel, without-shorter}
 
-module _ (before : ℕ → ℕ → Bool) {K : ℕ → Bool} {is : List ℕ} (h : Holds K is) where
+module _ (before : ℕ → ℕ → Bool) {K : ℕ → Bool} {is : List ℕ} (h : Lists K is) where
   -- who is free in K is free among those not yet placed, and the other way round
   free-in : {p : ℕ} → Free before K p → (p ∈ is) × T (free before is p)
   unfolding free
@@ -42,11 +42,11 @@ module _ (before : ℕ → ℕ → Bool) {K : ℕ → Bool} {is : List ℕ} (h :
       below y f = let out : y < p → ⊥ = λ l. s .least y l f in omega arith
 
 -- the schedule of what K holds, however listed
-pub schedule-held : (before : ℕ → ℕ → Bool) {K : ℕ → Bool} {is js : List ℕ} → Holds K is → Holds K js → schedule before (λ x. x) is ≡ schedule before (λ x. x) js
+pub schedule-held : (before : ℕ → ℕ → Bool) {K : ℕ → Bool} {is js : List ℕ} → Lists K is → Lists K js → schedule before (λ x. x) is ≡ schedule before (λ x. x) js
 schedule-held before {is = is} {js = js} h k = schedule-alike before (λ x. x) is js (λ x. (λ m. k .listed x (h .held x m), λ m. h .listed x (k .held x m))) (λ x y i j q. q)
 
 -- where there is no cycle, some one in K is free as long as any is in it
-pub some-free-in : (before : ℕ → ℕ → Bool) (K : ℕ → Bool) (is : List ℕ) → Holds K is → (Cycle before is → ⊥) → (i : ℕ) → K i ≡ true → (p : ℕ) × Free before K p
+pub some-free-in : (before : ℕ → ℕ → Bool) (K : ℕ → Bool) (is : List ℕ) → Lists K is → (Cycle before is → ⊥) → (i : ℕ) → K i ≡ true → (p : ℕ) × Free before K p
 some-free-in before K [] h f i e = absurd (List·Memᴰ·not-nil (h .listed i e))
 some-free-in before K (j ∷ js) h f i e =
     let w = free-one before j js f in

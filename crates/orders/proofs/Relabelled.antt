@@ -1,5 +1,5 @@
 -- Laws of relabelling: where r stands for the page f r, what is kept and scheduled of the labels stands for what is kept and scheduled of the pages. Assumes nothing.
-use mathlib.Core.Bool.{Bool, true, false, not, _&&_, _||_}
+use mathlib.Core.Bool.{Bool, true, false, not, _&&_, _||_, cond}
 use mathlib.Core.List.{List, [], _∷_, map, List·Memᴰ·head, List·Memᴰ·tail, List·Memᴰ·cases-cons}
 use mathlib.Core.Logic.{_⊎_, ⊎-elim}
 use mathlib.Core.Path.{_≡_, refl, sym, ap, ap₂, _∙_}
@@ -8,7 +8,6 @@ use native.Mathlib.Nat.{eq-or-lt-of-le}
 use native.Mathlib.Omega.{arith}
 use lib.ListN.{length, length-map}
 use lib.Dec.{T, eqb, eqb-refl, eqb→eq, ltb, ltb→lt, lt→ltb, nltb→le}
-use Rattle.lists.specs.Choice.{pick}
 use Rattle.lists.specs.Members.{_∈_, those}
 use Rattle.lists.proofs.Tests.{decide, same-test}
 use Rattle.lists.proofs.Membership.{any-map, any-same, all-map, all-same, those-map, those-same, those-out}
@@ -51,7 +50,7 @@ module _ (f : ℕ → ℕ) (us : List ℕ) (E before : ℕ → ℕ → Bool) (ag
     where
       step :
           (b c : Bool) → b ≡ c → {p q : List ℕ} (p′ q′ : List ℕ) → p ≡ map f p′ → q ≡ map f q′ →
-          pick b p q ≡ map f (pick c p′ q′)
+          cond b p q ≡ map f (cond c p′ q′)
       step true true e p′ q′ x y = x
       step true false e p′ q′ x y = cc
       step false true e p′ q′ x y = cc
@@ -66,12 +65,12 @@ module _ (f : ℕ → ℕ) (us : List ℕ) (rank ticket : ℕ → ℕ)
   lowest-map i (j ∷ js) m w =
       let n = w j (List·Memᴰ·head refl) in
       let v : Within us js = λ y l. w y (List·Memᴰ·tail l) in
-      ap (λ b. lowest ticket (pick b (f j) (f i)) (map f js)) (rises j i n m)
+      ap (λ b. lowest ticket (cond b (f j) (f i)) (map f js)) (rises j i n m)
       ∙ (step (ltb (rank j) (rank i)) (lowest-map j js n v) (lowest-map i js m v))
     where
       step :
           (b : Bool) → lowest ticket (f j) (map f js) ≡ f (lowest rank j js) → lowest ticket (f i) (map f js) ≡ f (lowest rank i js) →
-          lowest ticket (pick b (f j) (f i)) (map f js) ≡ f (lowest rank (pick b j i) js)
+          lowest ticket (cond b (f j) (f i)) (map f js) ≡ f (lowest rank (cond b j i) js)
       step true p q = p
       step false p q = q
 

@@ -8,26 +8,26 @@ use lib.Dec.{T, eqb, eqb-refl, eqb→eq}
 use Rattle.lists.proofs.Tests.{is-true, of-true, clash, or-either, or-first, or-second, and-parts, and-whole, minus-none, no-true}
 use Rattle.orders.specs.Chain.{joined, cyclic, Chain, Chain.one, Chain.more, Cycle}
 use Rattle.orders.specs.Admission.{admit}
-use Rattle.orders.specs.Walk.{Holds, Way, Way.last, Way.step}
+use Rattle.orders.specs.Walk.{Lists, Way, Way.last, Way.step}
 use Rattle.orders.proofs.Chains.{joined-chain, chain-joined, cyclic-new}
 use Rattle.orders.proofs.Admitted.{admit-last, admit-acyclic}
 
 module _ (before : ℕ → ℕ → Bool) where
   -- ---- ways through a set are chains through its members
 
-  way-chain : {K : ℕ → Bool} {ks : List ℕ} → Holds K ks → {a b : ℕ} → Way before K a b → Chain before ks b a
+  way-chain : {K : ℕ → Bool} {ks : List ℕ} → Lists K ks → {a b : ℕ} → Way before K a b → Chain before ks b a
   way-chain h {a} {b} (last e) = one (of-true (before a b) e)
   way-chain h {a} (step {d = d} e k p) = more (of-true (before a d) e) (h .listed d k) (way-chain h p)
 
-  chain-way : {K : ℕ → Bool} {ks : List ℕ} → Holds K ks → {a b : ℕ} → Chain before ks b a → Way before K a b
+  chain-way : {K : ℕ → Bool} {ks : List ℕ} → Lists K ks → {a b : ℕ} → Chain before ks b a → Way before K a b
   chain-way h {a} {b} (one e) = last (is-true (before a b) e)
   chain-way h {a} (more {c = c} e m p) = step (is-true (before a c) e) (h .held c m) (chain-way h p)
 
-  pub way-joined : {K : ℕ → Bool} {ks : List ℕ} → Holds K ks → (a b : ℕ) → Way before K a b ↔ T (joined before ks a b)
+  pub way-joined : {K : ℕ → Bool} {ks : List ℕ} → Lists K ks → (a b : ℕ) → Way before K a b ↔ T (joined before ks a b)
   way-joined {ks = ks} h a b = (λ p. chain-joined before (way-chain h p), λ t. chain-way h (joined-chain before ks a b t))
 
   -- where ks has no cycle, t and ks have one exactly where a way leads from t back to t
-  pub way-cyclic : {K : ℕ → Bool} {ks : List ℕ} → Holds K ks → (Cycle before ks → ⊥) → (t : ℕ) → Way before K t t ↔ T (cyclic before (t ∷ ks))
+  pub way-cyclic : {K : ℕ → Bool} {ks : List ℕ} → Lists K ks → (Cycle before ks → ⊥) → (t : ℕ) → Way before K t t ↔ T (cyclic before (t ∷ ks))
   way-cyclic {ks = ks} h f t = (
     λ p. cyclic-new before t ks f .1 (way-joined h t t .0 p),
     λ c. way-joined h t t .1 (cyclic-new before t ks f .0 c),
@@ -116,28 +116,28 @@ awaits-more before K K′ W W′ t old k w j d h b = w j ∙ ⊎-elim
 
 -- ---- admission, one turn after the other: K holds the kept of a sequence
 
-pub holds-none : (K : ℕ → Bool) → ((j : ℕ) → K j ≡ false) → Holds K []
+pub holds-none : (K : ℕ → Bool) → ((j : ℕ) → K j ≡ false) → Lists K []
 holds-none K n = record { listed = λ x e. absurd (clash (sym e ∙ n x)); held = λ x m. absurd (List·Memᴰ·not-nil m) }
 
-pub holds-more : (K K′ : ℕ → Bool) (t : ℕ) (ks : List ℕ) → Holds K ks → ((j : ℕ) → K′ j ≡ (K j || eqb t j)) → Holds K′ (t ∷ ks)
+pub holds-more : (K K′ : ℕ → Bool) (t : ℕ) (ks : List ℕ) → Lists K ks → ((j : ℕ) → K′ j ≡ (K j || eqb t j)) → Lists K′ (t ∷ ks)
 holds-more K K′ t ks h w = record {
   listed = λ x e. ⊎-elim (λ k. List·Memᴰ·tail (h .listed x k)) (λ q. List·Memᴰ·head (sym (eqb→eq t x (of-true (eqb t x) q)))) (or-either (K x) _ (sym (w x) ∙ e));
   held = λ x m. w x ∙ ⊎-elim (λ e. or-second (K x) _ (rw e (is-true (eqb t t) (eqb-refl t)))) (λ k. or-first (K x) _ (h .held x k)) (List·Memᴰ·cases-cons m);
 }
 
-module _ (before : ℕ → ℕ → Bool) (is : List ℕ) (t : ℕ) (K : ℕ → Bool) (old : Holds K (admit before [] is)) where
+module _ (before : ℕ → ℕ → Bool) (is : List ℕ) (t : ℕ) (K : ℕ → Bool) (old : Lists K (admit before [] is)) where
   -- what is kept has no cycle
   pub acyclic : Cycle before (admit before [] is) → ⊥
   acyclic = admit-acyclic before [] is (λ c. List·Memᴰ·not-nil (c .member))
 
   -- no way leads back to t: it is kept
-  pub keeps : (K′ : ℕ → Bool) → (Way before K t t → ⊥) → ((j : ℕ) → K′ j ≡ (K j || eqb t j)) → Holds K′ (admit before [] (is ++ (t ∷ [])))
+  pub keeps : (K′ : ℕ → Bool) → (Way before K t t → ⊥) → ((j : ℕ) → K′ j ≡ (K j || eqb t j)) → Lists K′ (admit before [] (is ++ (t ∷ [])))
   keeps K′ f w =
       let e : cyclic before (t ∷ admit before [] is) ≡ false = no-true (cyclic before (t ∷ admit before [] is)) (λ c. f (way-cyclic before old acyclic t .1 (of-true (cyclic before (t ∷ admit before [] is)) c))) in
       rw (admit-last before [] is t, e) (holds-more K K′ t (admit before [] is) old w)
 
   -- a way does: it is thrown out
-  pub drops : Way before K t t → Holds K (admit before [] (is ++ (t ∷ [])))
+  pub drops : Way before K t t → Lists K (admit before [] (is ++ (t ∷ [])))
   drops p =
       let e : cyclic before (t ∷ admit before [] is) ≡ true = is-true (cyclic before (t ∷ admit before [] is)) (way-cyclic before old acyclic t .0 p) in
       rw (admit-last before [] is t, e) old

@@ -6,7 +6,7 @@ use Prim.Native.Nat.{ℕ, _<_}
 use Rattle.lists.specs.Members.{_∈_}
 
 -- K is passed by the members of is, and by no other
-pub record Holds (K : ℕ → Bool) (is : List ℕ) : Type 0 where
+pub record Lists (K : ℕ → Bool) (is : List ℕ) : Type 0 where
   pub listed : (x : ℕ) → K x ≡ true → x ∈ is
   pub held : (x : ℕ) → x ∈ is → K x ≡ true
 

@@ -1,24 +1,24 @@
 -- What planning answers: the steps of a plan in document 01's words. Assumes nothing.
 use mathlib.Core.Path.{_≡_, sym, ap, ap₂, _∙_}
-use mathlib.Core.Bool.{Bool, _&&_}
+use mathlib.Core.Bool.{Bool, _&&_, cond}
 use mathlib.Core.List.{List, [], _++_, map}
-use Prim.Native.Nat.{ℕ, _*_, _^_, _≤_, _<_}
+use Prim.Native.Nat.{ℕ, _*_, _^_, _<_}
 use native.Mathlib.Omega.{arith}
 use borrow.Author.Tests.{lt-ltb}
 use lib.Dec.{T, eqb, ltb}
 use lib.ListN.{length, take, drop}
-use Rattle.lists.specs.Choice.{pick}
 use Rattle.lists.specs.Members.{any, those, upto, distinct}
 use Rattle.lists.proofs.Membership.{those-same, distinct-those, perm-distinct, upto-below, upto-distinct}
 use Rattle.refusals.specs.Outcome.{gives}
-use Rattle.orders.specs.Walk.{Holds}
+use Rattle.orders.specs.Walk.{Lists}
 use Rattle.orders.specs.Admission.{admit}
 use Rattle.orders.specs.Arrange.{byTicket, schedule}
 use Rattle.orders.proofs.Arranged.{by-ticket-perm}
 use Rattle.sets.specs.Set.{member, members}
 use Rattle.lists.specs.Tables.{tab}
 use Rattle.ledger.specs.declared.Version.{Version}
-use Rattle.ledger.specs.Gate.{pages, txAt, Batch}
+use Rattle.ledger.specs.Gate.{pages, txAt}
+use Rattle.ledger.specs.Inner.{Batch}
 use Rattle.lists.proofs.Tables.{tab-same}
 use Rattle.refusals.specs.declared.Answer.the-variants.{Count}
 use Rattle.planner.specs.Ranks.{demands, nth, Sound, Ranked}
@@ -41,7 +41,7 @@ lined-ranked t K batch m ps c l s = record {
 -- ---- the outcome of a plan
 
 abbrev judge : Bool → Bool → ℕ
-judge current kept = pick current (pick kept 0 2) 1
+judge current kept = cond current (cond kept 0 2) 1
 
 abbrev outcome : ℕ → List ℕ → List ℕ → List ℕ → Plans
 outcome k vs os out = record { answer = gives k; verdicts = vs; order = os; out = out }
@@ -66,11 +66,11 @@ module _
       (ps blockers : List ℕ) (c left k placed : ℕ) (vs os out vs′ os′ out′ : List ℕ)
       (l : Lined (λ i. txAt batch i .ticket) (member set) m ps c)
       (agree : (r s : ℕ) → r < c → s < c → demands blockers r s ≡ before (txAt batch) (nth ps r) (nth ps s))
-      (small : left < 2 ^ 64) (inside : Holds (member left) (admit (demands blockers) [] (upto c)))
+      (small : left < 2 ^ 64) (inside : Lists (member left) (admit (demands blockers) [] (upto c)))
       (count : k ≡ length (members left 64))
       (filled : os′ ≡ map (nth ps) (schedule (demands blockers) (λ x. x) (members left 64)) ++ drop k os)
       (listed : (i : ℕ) → member placed i ≡ any (eqb i) (take k os′))
-      (judged : vs′ ≡ tab m (λ i. pick (member set i) (pick (member placed i) 0 2) 1) ++ drop m vs)
+      (judged : vs′ ≡ tab m (λ i. cond (member set i) (cond (member placed i) 0 2) 1) ++ drop m vs)
       (copied : out′ ≡ gathered batch (take k os′) ++ drop (512 * k) out) where
     order-of : map (nth ps) (schedule (demands blockers) (λ x. x) (members left 64)) ≡ order (txAt batch) (sequence held (txAt batch) m)
     unfolding order kept

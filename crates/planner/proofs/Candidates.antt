@@ -7,7 +7,7 @@ use Prim.Native.Nat.{ℕ, _^_, _<_}
 use lib.Dec.{eqb, eqb→eq}
 use Rattle.lists.proofs.Tests.{clash, is-true, of-true, no-true, decide, minus-some, and-whole}
 use Rattle.orders.specs.Chain.{cyclic, Cycle}
-use Rattle.orders.specs.Walk.{Holds, Free, Next}
+use Rattle.orders.specs.Walk.{Lists, Free, Next}
 use Rattle.orders.proofs.Chains.{cyclic-cycle}
 use Rattle.orders.proofs.Placed.{some-free-in}
 use Rattle.sets.specs.Set.{member, members, Lowest}
@@ -15,7 +15,7 @@ use Rattle.sets.proofs.Laws.{none, some}
 use Rattle.sets.proofs.Listed.{listed}
 
 -- a set of 64 places holds what it lists
-pub holds : (m : ℕ) → m < 2 ^ 64 → Holds (member m) (members m 64)
+pub holds : (m : ℕ) → m < 2 ^ 64 → Lists (member m) (members m 64)
 holds m h = record { listed = λ x. listed m 64 h x .0; held = λ x. listed m 64 h x .1 }
 
 -- where the test finds no cycle there is none

@@ -1,14 +1,13 @@
 -- Readers of a key and blockers of a rank, page after page: what is known at each turn, and why they end as document 01's demand. Assumes nothing.
 use mathlib.Core.Path.{_≡_, refl, sym, ap, ap₂, _∙_}
-use mathlib.Core.Bool.{Bool, true, false, not, _&&_, _||_}
+use mathlib.Core.Bool.{Bool, true, false, not, _&&_, _||_, cond}
 use mathlib.Core.List.{List}
-use Prim.Native.Nat.{ℕ, _+_, _-_, _*_, _≤_, _<_}
+use Prim.Native.Nat.{ℕ, _+_, _-_, _≤_, _<_}
 use native.Mathlib.Omega.{arith}
 use borrow.Author.Tests.{lt-ltb, le-ltb, eq-eqb, ne-eqb, eqb-true, eqb-false}
 use lib.Dec.{eqb, ltb, ltb→lt, lt→ltb}
-use lib.ListN.{length, getD, take, drop, set, replicate, length-set, getD-replicate}
+use lib.ListN.{length, getD, take, set, replicate, length-set, getD-replicate}
 use lib.Seq.{take-all, getD-set-same, getD-set-other}
-use Rattle.lists.specs.Choice.{pick}
 use Rattle.lists.specs.Members.{_∈_, any}
 use Rattle.lists.proofs.Membership.{in-at, any-same, any-map, any-next, map-out}
 use Rattle.lists.proofs.Tests.{same-test, or-false}
@@ -26,7 +25,7 @@ use Rattle.planning.specs.Plan.{before}
 
 -- ---- tests
 
-mark : (m e a b : Bool) → pick b ((m || (e && a)) || e) (m || (e && a)) ≡ (m || (e && (a || b)))
+mark : (m e a b : Bool) → cond b ((m || (e && a)) || e) (m || (e && a)) ≡ (m || (e && (a || b)))
 mark true e a true = refl
 mark true e a false = refl
 mark false true true true = refl

@@ -1,16 +1,14 @@
 -- What a plan leaves in the lent lists, filled from the front: what is known at each turn. Assumes nothing.
 use mathlib.Core.Path.{_≡_, refl, sym, ap, ap₂, _∙_}
-use mathlib.Core.Bool.{Bool, true, false, not, _||_}
+use mathlib.Core.Bool.{Bool, true, false, not, cond}
 use mathlib.Core.List.{List, [], _∷_, _++_, append-assoc, append-nil, List·Memᴰ·head, List·Memᴰ·tail}
 use Prim.Native.Nat.{ℕ, suc, _+_, _-_, _*_, _≤_, _<_}
 use native.Mathlib.Numerals.{add-one}
 use native.Mathlib.Omega.{arith}
-use lib.Dec.{eqb, eqb→eq, eqb-refl}
-use lib.ListN.{length, getD, take, drop, set, length-append, length-take, length-drop}
+use lib.ListN.{length, getD, take, drop, set, length-append, length-drop}
 use lib.Seq.{length-take-le, take-suc, drop-cons, drop-drop, getD-take, set-at, take-at, drop-at}
-use Rattle.lists.specs.Choice.{pick}
-use Rattle.lists.specs.Members.{_∈_, any}
-use Rattle.lists.proofs.Tests.{clash, same-test}
+use Rattle.lists.specs.Members.{_∈_}
+use Rattle.lists.proofs.Tests.{clash}
 use Rattle.lists.proofs.Membership.{in-at}
 use Rattle.lists.specs.Tables.{tab}
 use Rattle.ledger.specs.Page.{pageAt}
@@ -22,11 +20,11 @@ use Rattle.planning.specs.Plan.{gathered}
 
 -- ---- the verdict of a page
 
-pub stale : (current kept : Bool) → not current ≡ true → _≡_ {A = ℕ} 1 (pick current (pick kept 0 2) 1)
+pub stale : (current kept : Bool) → not current ≡ true → _≡_ {A = ℕ} 1 (cond current (cond kept 0 2) 1)
 stale true kept e = absurd (clash (sym e))
 stale false kept e = refl
 
-pub judged : (current kept b : Bool) → not current ≡ false → kept ≡ b → _≡_ {A = ℕ} (pick b 0 2) (pick current (pick kept 0 2) 1)
+pub judged : (current kept b : Bool) → not current ≡ false → kept ≡ b → _≡_ {A = ℕ} (cond b 0 2) (cond current (cond kept 0 2) 1)
 judged true kept b e f = rw f
 judged false kept b e f = absurd (clash e)
 

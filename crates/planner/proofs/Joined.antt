@@ -14,7 +14,7 @@ use Rattle.lists.proofs.Membership.{any-in, any-out, all-in, all-out, getD-in, 
 use Rattle.lists.proofs.Membership.{perm-in, perm-length, distinct-at, perm-distinct, distinct-those}
 use Rattle.lists.proofs.Membership.{upto-below, upto-distinct, upto-length}
 use Rattle.orders.specs.Chain.{ordered, cyclic, Cycle}
-use Rattle.orders.specs.Walk.{Holds}
+use Rattle.orders.specs.Walk.{Lists}
 use Rattle.orders.specs.Admission.{admit}
 use Rattle.orders.specs.Arrange.{byTicket, schedule, free, Tickets}
 use Rattle.orders.proofs.Chains.{cyclic-cycle, cyclic-alike}
@@ -130,8 +130,8 @@ lined-different t K m pages c l r s h k e = omega (arith, up r s k e, up s r h (
 
 -- ---- a set stands for the list of the kept
 
-module _ (E : ℕ → ℕ → Bool) (c kept : ℕ) (small : kept < 2 ^ 64) (held : Holds (member kept) (admit E [] (upto c))) where
-  listed : Holds (member kept) (members kept 64)
+module _ (E : ℕ → ℕ → Bool) (c kept : ℕ) (small : kept < 2 ^ 64) (held : Lists (member kept) (admit E [] (upto c))) where
+  listed : Lists (member kept) (members kept 64)
   listed = holds kept small
 
   none : Cycle E (admit E [] (upto c)) → ⊥
@@ -186,7 +186,7 @@ module _ (E : ℕ → ℕ → Bool) (c kept : ℕ) (small : kept < 2 ^ 64) (held
 -- ---- what the order list holds
 
 module _
-    (E : ℕ → ℕ → Bool) (c kept : ℕ) (small : kept < 2 ^ 64) (held : Holds (member kept) (admit E [] (upto c)))
+    (E : ℕ → ℕ → Bool) (c kept : ℕ) (small : kept < 2 ^ 64) (held : Lists (member kept) (admit E [] (upto c)))
     (t : ℕ → ℕ) (K : ℕ → Bool) (m : ℕ) (pages : List ℕ) (l : Lined t K m pages c)
     (k : ℕ) (old new : List ℕ) (count : k ≡ length (members kept 64)) (filled : new ≡ map (nth pages) (schedule E (λ x. x) (members kept 64)) ++ drop k old) where
   pub filled-many : length (map (nth pages) (schedule E (λ x. x) (members kept 64))) ≡ k

@@ -7,7 +7,7 @@ ghost use mathlib.Core.List.{[]};
 ghost use Prim.Native.Nat.{_≤_, _<_};
 ghost use Rattle.lists.specs.Members.{upto};
 ghost use Rattle.orders.specs.Admission.{admit};
-ghost use Rattle.orders.specs.Walk.{Holds, Way};
+ghost use Rattle.orders.specs.Walk.{Lists, Way};
 ghost use Rattle.sets.specs.Set.{member};
 ghost use Rattle.planner.specs.Ranks.{demands, Awaits};
 
@@ -49,7 +49,7 @@ fn closes_cycle(blockers: &[u64; layout::MOST_PAGES], kept: u64, awaited: u64, t
 // The kept among the first `count` ranks, taken in rising order.
 pub fn admitted(blockers: &[u64; layout::MOST_PAGES], count: usize) -> u64
     requires { ⌜ count ≤ 64 ⌝ }
-    ensures { λ r. ⌜ Holds (member r) (admit (demands (now (blockers .entry))) [] (upto count)) ⌝ }
+    ensures { λ r. ⌜ Lists (member r) (admit (demands (now (blockers .entry))) [] (upto count)) ⌝ }
 {
     let mut kept = 0u64;
     let mut awaited = 0u64;

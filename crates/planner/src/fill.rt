@@ -6,7 +6,7 @@ ghost use mathlib.Core.List.{_++_};
 ghost use Prim.Native.Nat.{ℕ, _*_, _+_, _≤_, _<_};
 ghost use lib.ListN.{length, getD, take, drop};
 ghost use lib.Dec.{eqb};
-ghost use Rattle.lists.specs.Choice.{pick};
+ghost use mathlib.Core.Bool.{cond};
 ghost use Rattle.lists.specs.Members.{any};
 ghost use Rattle.sets.specs.Set.{member};
 ghost use Rattle.lists.specs.Tables.{tab};
@@ -36,7 +36,7 @@ pub fn placed(order: &[u8], k: usize) -> u64
 
 // The verdict of a page.
 fn verdict(current: bool, kept: bool) -> u8
-    ensures { λ v. ⌜ v ≡ pick current (pick kept 0 2) 1 ⌝ }
+    ensures { λ v. ⌜ v ≡ cond current (cond kept 0 2) 1 ⌝ }
 {
     if !current {
         return STALE;
@@ -49,7 +49,7 @@ pub fn fill_verdicts(verdicts: &mut [u8], m: usize, current: u64, kept: u64)
     requires { ⌜ (m ≤ length (now verdicts)) × (m ≤ 64) ⌝ }
     ensures { λ _. ⌜
         now (verdicts .exit)
-        ≡ tab m (λ i. pick (member current i) (pick (member kept i) 0 2) 1) ++ drop m (now (verdicts .entry))
+        ≡ tab m (λ i. cond (member current i) (cond (member kept i) 0 2) 1) ++ drop m (now (verdicts .entry))
         ⌝ }
 {
     let mut i = 0;

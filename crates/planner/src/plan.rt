@@ -14,7 +14,8 @@ ghost use lib.ListN.{length};
 ghost use lib.Dec.{ltb};
 ghost use Rattle.sets.specs.Set.{member};
 ghost use Rattle.ledger.specs.State.{stateOf, versionsIn};
-ghost use Rattle.ledger.specs.Gate.{txAt, Batch, TicketsOf};
+ghost use Rattle.ledger.specs.Gate.{txAt};
+ghost use Rattle.ledger.specs.Inner.{Batch, TicketsOf};
 ghost use Rattle.planner.specs.Ranks.{Differ};
 ghost use Rattle.planning.specs.Plan.{current, sequence, plans, planned, planBatch};
 

@@ -1,10 +1,9 @@
 -- Document 01, 'Planning'. A transaction of a batch is named by its page index: `b i` is the transaction on page i. Assumes nothing.
 use Prim.Native.Nat.{ℕ, _*_}
-use mathlib.Core.Bool.{Bool, not, _&&_, _||_}
+use mathlib.Core.Bool.{Bool, not, _&&_, _||_, cond}
 use mathlib.Core.List.{List, [], _∷_, _++_}
 use lib.ListN.{length, drop}
 use lib.Dec.{eqb, ltb}
-use Rattle.lists.specs.Choice.{pick}
 use Rattle.lists.specs.Members.{any, those, upto}
 use Rattle.refusals.specs.declared.Answer.{Answer}
 use Rattle.refusals.specs.Outcome.{Outcome, gives, outcome}
@@ -44,7 +43,7 @@ kept b seq = admit (before b) [] seq
 
 -- "Others get verdict 1, stale"; "kept (verdict 0)"; "Otherwise it gets verdict 2"
 unfoldable pub verdict : (ℕ → Version) → (ℕ → Tx) → List ℕ → ℕ → ℕ
-verdict held b seq i = pick (current held b i) (pick (any (eqb i) (kept b seq)) 0 2) 1
+verdict held b seq i = cond (current held b i) (cond (any (eqb i) (kept b seq)) 0 2) 1
 
 -- ---- rule 4
 

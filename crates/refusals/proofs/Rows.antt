@@ -2,12 +2,11 @@
 use Prim.Native.Nat.{ℕ, zero, suc, _+_, _≤_, _<_}
 use native.Mathlib.Nat.{eq-or-lt-of-le, add-zero, add-suc, suc-add, zero-add}
 use native.Mathlib.Omega.{arith}
-use mathlib.Core.Bool.{Bool, true, false, true≢false, false≢true}
+use mathlib.Core.Bool.{Bool, true, false, true≢false, false≢true, cond}
 use mathlib.Core.List.{List, [], _∷_, _++_}
 use mathlib.Core.Logic.{_↔_, _⊎_, inl, inr, ⊎-elim}
 use mathlib.Core.Path.{_≡_, refl, sym, ap, ap₂, _∙_}
 use lib.Dec.{T}
-use Rattle.lists.specs.Choice.{pick}
 use Rattle.lists.specs.Members.{all}
 use Rattle.lists.specs.Search.{firstIn}
 use Rattle.lists.proofs.Tests.{both, and-left, and-right}
@@ -64,7 +63,7 @@ module _ (r : Row) (rs : List Row) where
   unfolding first
   row-none e = go (r .case) e
     where
-      go : (b : Bool) → pick b (fault (r .number) (r .place)) (first rs) ≡ clear → (b ≡ false) × (first rs ≡ clear)
+      go : (b : Bool) → cond b (fault (r .number) (r .place)) (first rs) ≡ clear → (b ≡ false) × (first rs ≡ clear)
       go true q = absurd (no-fault q refl)
       go false q = (refl, q)
 
@@ -81,8 +80,8 @@ unfolding first
 append-fault [] ys e = absurd (no-fault refl e)
 append-fault (r ∷ rs) ys {n} {p} e = go (r .case) e (λ q. append-fault rs ys q)
   where
-    go : (b : Bool) → pick b (fault (r .number) (r .place)) (first rs) ≡ fault n p → (first rs ≡ fault n p → first (rs ++ ys) ≡ fault n p)
-        → pick b (fault (r .number) (r .place)) (first (rs ++ ys)) ≡ fault n p
+    go : (b : Bool) → cond b (fault (r .number) (r .place)) (first rs) ≡ fault n p → (first rs ≡ fault n p → first (rs ++ ys) ≡ fault n p)
+        → cond b (fault (r .number) (r .place)) (first (rs ++ ys)) ≡ fault n p
     go true q ih = q
     go false q ih = ih q
 
@@ -179,7 +178,7 @@ first-moved f [] = refl
 first-moved f (r ∷ rs) = go (r .case) (first-moved f rs)
   where
     go : (b : Bool) → first (moved f rs) ≡ movedFault f (first rs)
-        → pick b (fault (r .number) (f (r .place))) (first (moved f rs)) ≡ movedFault f (pick b (fault (r .number) (r .place)) (first rs))
+        → cond b (fault (r .number) (f (r .place))) (first (moved f rs)) ≡ movedFault f (cond b (fault (r .number) (r .place)) (first rs))
     go true ih = refl
     go false ih = ih
 

@@ -1,9 +1,8 @@
 -- Tables of refusals: rows in turn, and the first whose case is there. Assumes nothing.
 use Prim.Native.Nat.{ℕ, zero, suc}
-use mathlib.Core.Bool.{Bool, true, false}
+use mathlib.Core.Bool.{Bool, true, false, cond}
 use mathlib.Core.List.{List, [], _∷_, _++_}
 use mathlib.Core.Path.{_≡_}
-use Rattle.lists.specs.Choice.{pick}
 use Rattle.refusals.specs.declared.Finding.{Finding}
 use Rattle.refusals.specs.declared.Finding.the-variants.{Clear, Found}
 use Rattle.refusals.specs.Outcome.{Outcome, gives, refuses}
@@ -32,7 +31,7 @@ row n p c = record { number = n; place = p; case = c }
 -- the first row whose case is there
 unfoldable pub first : List Row → Fault
 first [] = clear
-first (r ∷ rs) = pick (r .case) (fault (r .number) (r .place)) (first rs)
+first (r ∷ rs) = cond (r .case) (fault (r .number) (r .place)) (first rs)
 
 -- number n at place p is given: its row's case is there, and no case before it is
 pub data Given (n p : ℕ) : List Row → Type 0 where

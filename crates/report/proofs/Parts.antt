@@ -18,12 +18,12 @@ use Rattle.refusals.specs.Outcome.{Outcome, gives, refuses}
 use Rattle.refusals.specs.declared.Answer.{Answer}
 use Rattle.refusals.specs.declared.Answer.the-variants.{Count, Refused}
 use Rattle.tonnage.specs.Text.{digits, width, textOf}
-use Rattle.tonnage.specs.Services.{Written, writeText, wrote}
+use Rattle.tonnage.specs.Services.{WrittenText, writeText, wrote}
 use Rattle.tonnage.proofs.Runs.{narrow, length-digits}
 use Rattle.tonnage.proofs.RoundTrip.{longest-fits, written}
 use Rattle.report.specs.declared.put.Word.{Word}
 use Rattle.report.specs.Put.{Put}
-use Rattle.report.specs.Listing.{decimal, word, placed}
+use Rattle.report.specs.Listing.{decimal, verdictWord, placeText}
 use Rattle.report.proofs.Puts.{put-as}
 
 -- a number of 32 bits in decimal
@@ -45,11 +45,11 @@ table =
     ∷ record { text = ascii "failed"; length = 6 }
     ∷ []
 
--- a row of the table spells the word of its verdict
+-- a row of the table spells the verdictWord of its verdict
 pub record Spells (v : ℕ) (w : Word) : Type 0 where
   pub short : w .length ≤ 6
   pub within : w .length ≤ length (w .text)
-  pub spelt : take (w .length) (w .text) ≡ word v
+  pub spelt : take (w .length) (w .text) ≡ verdictWord v
 
 pub table-spells : (v : ℕ) (d : Word) → v < 4 → Spells v (getD table v d)
 unfolding ascii
@@ -59,7 +59,7 @@ table-spells (suc (suc zero)) d h = record { short = omega arith; within = omega
 table-spells (suc (suc (suc zero))) d h = record { short = omega arith; within = omega arith; spelt = refl }
 table-spells (suc (suc (suc (suc v)))) d h = absurd (omega arith)
 
-pub no-word : (v : ℕ) → 4 ≤ v → word v ≡ []
+pub no-word : (v : ℕ) → 4 ≤ v → verdictWord v ≡ []
 no-word zero h = absurd (omega arith)
 no-word (suc zero) h = absurd (omega arith)
 no-word (suc (suc zero)) h = absurd (omega arith)
@@ -68,20 +68,20 @@ no-word (suc (suc (suc (suc v)))) h = refl
 
 -- all its letters
 pub spelt-all : {v : ℕ} {w : Word} {l m : List ℕ} {at i : ℕ} → Spells v w → i ≤ w .length → w .length ≤ i → Put l at (take i (w .text)) m (at + i)
-    → (at + i ≤ at + 6) × Put l at (word v) m (at + i)
+    → (at + i ≤ at + 6) × Put l at (verdictWord v) m (at + i)
 spelt-all {v} {w} {l} {m} {at} {i} s h k p =
     let e : i ≡ w .length = le-antisymm h k in
-    (omega (arith, s .short), put-as l at (take i (w .text)) (word v) m (at + i) (ap (λ (n : ℕ). take n (w .text)) e ∙ s .spelt) p)
+    (omega (arith, s .short), put-as l at (take i (w .text)) (verdictWord v) m (at + i) (ap (λ (n : ℕ). take n (w .text)) e ∙ s .spelt) p)
 
 -- ---- places
 
 module _ (order : List ℕ) (k i p : ℕ) (e : p ≡ firstIn (λ j. eqb (getD order j 0) i) 0 k) where
-  pub placed-some : p < k → decimal p ≡ placed order k i
-  unfolding placed
+  pub placed-some : p < k → decimal p ≡ placeText order k i
+  unfolding placeText
   placed-some h = rw (← e, lt-ltb p k h)
 
-  pub placed-none : k ≤ p → 45 ∷ [] ≡ placed order k i
-  unfolding placed ascii
+  pub placed-none : k ≤ p → 45 ∷ [] ≡ placeText order k i
+  unfolding placeText ascii
   placed-none h = rw (← e, le-ltb p k h)
 
 -- ---- tonnes, written into the rest of a buffer that has room
@@ -109,10 +109,10 @@ module _ (out ys : List ℕ) (at : ℕ) (z : ℤ) (r : Answer) (room : at + 25 �
   pub tonnes-put : (n : ℕ) → r ≡ Count n
       → (at + n ≤ at + 25) × Put out at (textOf z) (take at out ++ (ys ++ drop (length out - at) (drop at out))) (at + n)
   tonnes-put n h =
-      let d : _≡_ {A = Written} (record { answer = gives n; text = ys }) (record { answer = gives (length (textOf z)); text = textOf z ++ drop (at + length (textOf z)) out }) = rw h at done in
-      let g : _≡_ {A = Outcome ℕ} (gives n) (gives (length (textOf z))) = ap (λ (w : Written). w .answer) d in
+      let d : _≡_ {A = WrittenText} (record { answer = gives n; text = ys }) (record { answer = gives (length (textOf z)); text = textOf z ++ drop (at + length (textOf z)) out }) = rw h at done in
+      let g : _≡_ {A = Outcome ℕ} (gives n) (gives (length (textOf z))) = ap (λ (w : WrittenText). w .answer) d in
       let a : n ≡ length (textOf z) = cc in
-      let t : ys ≡ textOf z ++ drop (at + length (textOf z)) out = ap (λ (w : Written). w .text) d in (
+      let t : ys ≡ textOf z ++ drop (at + length (textOf z)) out = ap (λ (w : WrittenText). w .text) d in (
         omega (arith, few),
         record {
           ends = ap (λ (k : ℕ). at + k) a;
@@ -124,6 +124,6 @@ module _ (out ys : List ℕ) (at : ℕ) (z : ℤ) (r : Answer) (room : at + 25 �
 
   pub tonnes-room : (f : Refusal) → r ≡ Refused f → ⊥
   tonnes-room f h =
-      let g : _≡_ {A = Outcome ℕ} (refuses (f .number) (f .place)) (gives (length (textOf z))) = ap (λ (w : Written). w .answer) (rw h at done) in
+      let g : _≡_ {A = Outcome ℕ} (refuses (f .number) (f .place)) (gives (length (textOf z))) = ap (λ (w : WrittenText). w .answer) (rw h at done) in
       let n : _≡_ {A = ℕ} 0 1 = cc in
       omega arith

@@ -1,13 +1,12 @@
 -- The lines of the state, and the texts as a whole. Assumes nothing.
 use Prim.Native.Nat.{ℕ, _≤_, _<_}
 use mathlib.Core.Path.{_≡_, refl, sym, ap}
-use mathlib.Core.Bool.{Bool, true, false, not, and-false}
+use mathlib.Core.Bool.{Bool, true, false, and-false, cond}
 use mathlib.Core.List.{List, []}
 use native.Mathlib.Omega.{arith}
 use lib.ListN.{length}
 use lib.Dec.{ltb}
 use borrow.Author.Tests.{lt-leb, le-leb, eqb-true, leb-true, not-false}
-use Rattle.lists.specs.Choice.{pick}
 use Rattle.lists.proofs.Tests.{leb-not, and-parts}
 use Rattle.ledger.specs.declared.Entry.{Entry}
 use Rattle.ledger.specs.State.{State, entry, isGone, wrongLengths}
@@ -19,15 +18,15 @@ use Rattle.report.proofs.Puts.{fills, fills-to}
 -- ---- the line of a key
 
 module _ (k : ℕ) (e : Entry) where
-  pub line-gone : isGone e ≡ true → [] ≡ pick (isGone e) [] (stateLine k e)
+  pub line-gone : isGone e ≡ true → [] ≡ cond (isGone e) [] (stateLine k e)
   line-gone h = rw h
 
-  pub line-present : isGone e ≡ false → stateLine k e ≡ pick (isGone e) [] (stateLine k e)
+  pub line-present : isGone e ≡ false → stateLine k e ≡ cond (isGone e) [] (stateLine k e)
   line-present h = rw h
 
-pub key-line : (s : State) (k : ℕ) (e : Entry) → e ≡ entry s k → pick (isGone e) [] (stateLine k e) ≡ keyLine s k
+pub key-line : (s : State) (k : ℕ) (e : Entry) → e ≡ entry s k → cond (isGone e) [] (stateLine k e) ≡ keyLine s k
 unfolding keyLine
-key-line s k e h = ap (λ (x : Entry). pick (isGone x) [] (stateLine k x)) h
+key-line s k e h = ap (λ (x : Entry). cond (isGone x) [] (stateLine k x)) h
 
 -- ---- the refusal as a whole
 

@@ -1,10 +1,9 @@
 -- Document 01, 'The listing': its whole text, from what plan and commit leave. Assumes nothing.
 use Prim.Native.Nat.{ℕ}
-use mathlib.Core.Bool.{Bool, not, _&&_}
+use mathlib.Core.Bool.{Bool, not, _&&_, cond}
 use mathlib.Core.List.{List, [], _∷_, _++_}
 use lib.ListN.{length, getD, drop}
 use lib.Dec.{eqb, leb, ltb}
-use Rattle.lists.specs.Choice.{pick}
 use Rattle.lists.specs.Search.{firstIn}
 use Rattle.lists.specs.Ascii.{ascii}
 use Rattle.tonnage.specs.Text.{digits, width, textOf}
@@ -21,22 +20,22 @@ decimal n = digits (width n) n
 abbrev pub words : List (List ℕ)
 words = ascii "kept" ∷ ascii "stale" ∷ ascii "cycle" ∷ ascii "failed" ∷ []
 
-abbrev pub word : ℕ → List ℕ
-word v = getD words v []
+abbrev pub verdictWord : ℕ → List ℕ
+verdictWord v = getD words v []
 
 -- "The header gives n, m and k."
 unfoldable pub header : ℕ → ℕ → ℕ → List ℕ
 header n m k = ascii "block " ++ (decimal n ++ (ascii " pages " ++ (decimal m ++ (ascii " kept " ++ (decimal k ++ ascii "\n")))))
 
 -- "place in the schedule or a hyphen": where page i stands among the first k of the order
-unfoldable pub placed : List ℕ → ℕ → ℕ → List ℕ
-placed order k i =
+unfoldable pub placeText : List ℕ → ℕ → ℕ → List ℕ
+placeText order k i =
     let p = firstIn (λ j. eqb (getD order j 0) i) 0 k in
-    pick (ltb p k) (decimal p) (ascii "-")
+    cond (ltb p k) (decimal p) (ascii "-")
 
--- "ticket, verdict word, place in the schedule or a hyphen"
+-- "ticket, verdict verdictWord, place in the schedule or a hyphen"
 unfoldable pub pageLine : ℕ → ℕ → List ℕ → List ℕ
-pageLine ticket verdict place = decimal ticket ++ (ascii " " ++ (word verdict ++ (ascii " " ++ (place ++ ascii "\n"))))
+pageLine ticket verdict place = decimal ticket ++ (ascii " " ++ (verdictWord verdict ++ (ascii " " ++ (place ++ ascii "\n"))))
 
 -- "key, block and place with a dot between, tonnes"
 unfoldable pub stateLine : ℕ → Entry → List ℕ
@@ -45,13 +44,13 @@ stateLine k e =
 
 -- "each present key"
 unfoldable pub keyLine : State → ℕ → List ℕ
-keyLine s k = pick (isGone (entry s k)) [] (stateLine k (entry s k))
+keyLine s k = cond (isGone (entry s k)) [] (stateLine k (entry s k))
 
 -- "Then come the pages in input order .. Then each present key, rising"
 unfoldable pub listing : ℕ → List ℕ → List ℕ → List ℕ → ℕ → State → List ℕ
 listing n batch verdicts order k s =
     header n (pages batch) k
-    ++ (flat (pages batch) (λ i. pageLine (txAt batch i .ticket) (getD verdicts i 0) (placed order k i))
+    ++ (flat (pages batch) (λ i. pageLine (txAt batch i .ticket) (getD verdicts i 0) (placeText order k i))
     ++ flat (keys s) (keyLine s))
 
 -- "On a refusal the only line is `refused`, its number and its place, blanks between."
@@ -74,8 +73,8 @@ together out batch verdicts order k s =
 
 -- the text that is filled in: the listing, or nothing where the lists do not go together
 unfoldable pub listed : List ℕ → ℕ → List ℕ → List ℕ → List ℕ → ℕ → State → List ℕ
-listed out n batch verdicts order k s = pick (together out batch verdicts order k s) (listing n batch verdicts order k s) []
+listed out n batch verdicts order k s = cond (together out batch verdicts order k s) (listing n batch verdicts order k s) []
 
 -- the refusal, or nothing where the buffer has less than 64 bytes
 unfoldable pub refused : List ℕ → ℕ → ℕ → List ℕ
-refused out n p = pick (leb 64 (length out)) (refusal n p) []
+refused out n p = cond (leb 64 (length out)) (refusal n p) []

@@ -12,11 +12,11 @@ ghost use lib.ListN.{length, getD};
 ghost use lib.Dec.{eqb};
 ghost use Rattle.lists.specs.Search.{firstIn};
 ghost use Rattle.lists.specs.Tables.{flat};
-ghost use Rattle.lists.specs.Choice.{pick};
+ghost use mathlib.Core.Bool.{cond};
 ghost use Rattle.ledger.specs.State.{stateOf, isGone};
 ghost use Rattle.ledger.specs.Gate.{pages, txAt};
 ghost use Rattle.report.specs.Put.{Put};
-ghost use Rattle.report.specs.Listing.{header, placed, pageLine, stateLine, keyLine, refusal};
+ghost use Rattle.report.specs.Listing.{header, placeText, pageLine, stateLine, keyLine, refusal};
 
 // The line of a refusal.
 pub fn put_refusal(out: &mut [u8], number: u32, place: u32) -> usize
@@ -63,7 +63,7 @@ fn find_place(order: &[u8], k: usize, i: usize) -> usize
 fn put_place(out: &mut [u8], at: usize, order: &[u8], k: usize, i: usize) -> usize
     requires { ⌜ at + 10 ≤ length (now out) ⌝ }
     requires { ⌜ (k ≤ length (now order)) × (k ≤ 64) ⌝ }
-    ensures { λ r. ⌜ (r ≤ at + 10) × Put (now (out .entry)) at (placed (now (order .entry)) k i) (now (out .exit)) r ⌝ }
+    ensures { λ r. ⌜ (r ≤ at + 10) × Put (now (out .entry)) at (placeText (now (order .entry)) k i) (now (out .exit)) r ⌝ }
 {
     let p = find_place(order, k, i);
     if p < k {
@@ -86,7 +86,7 @@ fn put_page(
     requires { ⌜ (k ≤ length (now order)) × (k ≤ 64) ⌝ }
     ensures { λ r. ⌜
         (r ≤ at + 32)
-        × Put (now (out .entry)) at (pageLine ticket verdict (placed (now (order .entry)) k i)) (now (out .exit)) r
+        × Put (now (out .entry)) at (pageLine ticket verdict (placeText (now (order .entry)) k i)) (now (out .exit)) r
         ⌝ }
 {
     let first = put::put_number(out, at, ticket);
@@ -113,7 +113,7 @@ pub fn put_pages(
         (r ≤ at + 32 * pages (now (batch .entry)))
         × Put (now (out .entry)) at (flat (pages (now (batch .entry)))
         (λ i. pageLine (txAt (now (batch .entry)) i .ticket) (getD (now (verdicts .entry)) i 0)
-        (placed (now (order .entry)) k i))) (now (out .exit)) r
+        (placeText (now (order .entry)) k i))) (now (out .exit)) r
         ⌝ }
 {
     let m = batch.len() / layout::PAGE;
@@ -149,7 +149,7 @@ fn put_state(out: &mut [u8], at: usize, key: usize, version: Version, value: i64
 fn put_key(out: &mut [u8], at: usize, key: usize, e: Entry) -> usize
     requires { ⌜ (at + 60 ≤ length (now out)) × (key < 1024) ⌝ }
     ensures { λ r. ⌜
-        (r ≤ at + 60) × Put (now (out .entry)) at (pick (isGone e) [] (stateLine key e)) (now (out .exit)) r
+        (r ≤ at + 60) × Put (now (out .entry)) at (cond (isGone e) [] (stateLine key e)) (now (out .exit)) r
         ⌝ }
 {
     if e.is_absent() {

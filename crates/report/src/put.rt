@@ -7,7 +7,7 @@ ghost use mathlib.Core.List.{[], _∷_};
 ghost use lib.ListN.{length};
 ghost use Rattle.tonnage.specs.Text.{textOf};
 ghost use Rattle.report.specs.Put.{Put};
-ghost use Rattle.report.specs.Listing.{decimal, word};
+ghost use Rattle.report.specs.Listing.{decimal, verdictWord};
 
 // The word of a verdict: its letters in front, and how many they are.
 struct Word {
@@ -72,7 +72,7 @@ pub fn put_number(out: &mut [u8], at: usize, n: u32) -> usize
 // The word of a verdict; nothing for what is no verdict.
 pub fn put_word(out: &mut [u8], at: usize, verdict: u8) -> usize
     requires { ⌜ at + 6 ≤ length (now out) ⌝ }
-    ensures { λ r. ⌜ (r ≤ at + 6) × Put (now (out .entry)) at (word verdict) (now (out .exit)) r ⌝ }
+    ensures { λ r. ⌜ (r ≤ at + 6) × Put (now (out .entry)) at (verdictWord verdict) (now (out .exit)) r ⌝ }
 {
     let row = verdict as usize;
     if row >= WORDS.len() {

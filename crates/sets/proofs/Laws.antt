@@ -11,7 +11,7 @@ use borrow.Author.Tests.{eq-eqb, ne-eqb}
 use lib.Dec.{eqb}
 use lib.Bits.{bitOr, or-add-and, and-le-r}
 use Rattle.lists.proofs.Tests.{clash, and-parts, minus-some, or-first, or-second}
-use Rattle.sets.specs.Set.{member, size, one}
+use Rattle.sets.specs.Set.{member, howMany, oneIf}
 use Rattle.sets.proofs.Digits.{low, next, of-none, of-or, of-minus, of-only, of-trailing}
 
 same-digit : (x y : ℕ) → x < 2 → y < 2 → eqb x 1 ≡ eqb y 1 → x ≡ y
@@ -55,7 +55,7 @@ part-lt a b i h p q = omega (arith, part-le a b h, differ)
 pub none : (i : ℕ) → member 0 i ≡ false
 none = of-none
 
--- a set of k places has members below k alone, and one that is not 0 has some
+-- a set of k places has members below k alone, and oneIf that is not 0 has some
 pub within : (k m i : ℕ) → m < 2 ^ k → member m i ≡ true → i < k
 unfolding member
 within k m i h e = lt-of-not-le (λ l. clash (sym e ∙ ap (λ (x : ℕ). eqb (x % 2) 1) (div-eq-of-lt (lt-of-lt-of-le h (pow-mono l)))))
@@ -63,58 +63,58 @@ within k m i h e = lt-of-not-le (λ l. clash (sym e ∙ ap (λ (x : ℕ). eqb (x
 pub some : (k m : ℕ) → 0 < m → m < 2 ^ k → (i : ℕ) × (member m i ≡ true)
 some k m p h = (_, of-trailing k m p h .1)
 
--- sizes: of sets that agree below n, of 0, and of a set without one of its members
-pub size-same : (m r n : ℕ) → ((j : ℕ) → j < n → member m j ≡ member r j) → size m n ≡ size r n
-unfolding size
+-- sizes: of sets that agree below n, of 0, and of a set without oneIf of its members
+pub size-same : (m r n : ℕ) → ((j : ℕ) → j < n → member m j ≡ member r j) → howMany m n ≡ howMany r n
+unfolding howMany
 size-same m r zero h = refl
 size-same m r (suc n) h = rw (size-same m r n (λ j l. h j (omega arith)), h n (omega arith))
 
-pub size-none : (n : ℕ) → size 0 n ≡ 0
-unfolding size
+pub size-none : (n : ℕ) → howMany 0 n ≡ 0
+unfolding howMany
 size-none zero = refl
 size-none (suc n) = rw (size-none n, none n)
 
-pub size-less : (m r i n : ℕ) → member m i ≡ true → i < n → ((j : ℕ) → member r j ≡ (member m j && not (eqb i j))) → size m n ≡ size r n + 1
-unfolding size
+pub size-less : (m r i n : ℕ) → member m i ≡ true → i < n → ((j : ℕ) → member r j ≡ (member m j && not (eqb i j))) → howMany m n ≡ howMany r n + 1
+unfolding howMany
 size-less m r i zero e h w = absurd (not-suc-le-zero h)
 size-less m r i (suc n) e h w = ⊎-elim here (λ l. there (size-less m r i n e l w) l) (eq-or-lt-of-le (le-of-suc-le-suc h))
   where
     other : (j : ℕ) → (i ≡ j → ⊥) → member r j ≡ member m j
     other j d = w j ∙ rw (ne-eqb i j d, and-true)
 
-    here : i ≡ n → size m n + one (member m n) ≡ size r n + one (member r n) + 1
+    here : i ≡ n → howMany m n + oneIf (member m n) ≡ howMany r n + oneIf (member r n) + 1
     here q =
-        let a : one (member m n) ≡ 1 = rw (← q, e) in
-        let b : one (member r n) ≡ 0 = rw (w n, eq-eqb i n q, and-false) in
-        let s : size m n ≡ size r n = size-same m r n (λ j l. sym (other j (λ z. omega arith))) in
+        let a : oneIf (member m n) ≡ 1 = rw (← q, e) in
+        let b : oneIf (member r n) ≡ 0 = rw (w n, eq-eqb i n q, and-false) in
+        let s : howMany m n ≡ howMany r n = size-same m r n (λ j l. sym (other j (λ z. omega arith))) in
         omega arith
 
-    there : size m n ≡ size r n + 1 → i < n → size m n + one (member m n) ≡ size r n + one (member r n) + 1
-    there s l = let a : one (member r n) ≡ one (member m n) = ap one (other n (λ z. omega arith)) in omega arith
+    there : howMany m n ≡ howMany r n + 1 → i < n → howMany m n + oneIf (member m n) ≡ howMany r n + oneIf (member r n) + 1
+    there s l = let a : oneIf (member r n) ≡ oneIf (member m n) = ap oneIf (other n (λ z. omega arith)) in omega arith
 
--- a set without one of its members is a smaller number: the measure of a loop that takes one member a turn
+-- a set without oneIf of its members is a smaller number: the measure of a loop that takes oneIf member a turn
 pub without-lt : (m r i : ℕ) → member m i ≡ true → ((j : ℕ) → member r j ≡ (member m j && not (eqb i j))) → r < m
 without-lt m r i e w =
     part-lt r m i (λ j z. minus-some (member m j) (eqb i j) (sym (w j) ∙ z) .0) (w i ∙ rw (eq-eqb i i refl, and-false)) e
 
--- and one more member makes it greater
+-- and oneIf more member makes it greater
 pub with-lt : (m r i : ℕ) → member m i ≡ false → ((j : ℕ) → member r j ≡ (member m j || eqb i j)) → m < r
 with-lt m r i e w = part-lt m r i (λ j z. w j ∙ or-first (member m j) _ z) e (w i ∙ or-second (member m i) _ (eq-eqb i i refl))
 
-pub size-le : (m r n : ℕ) → ((j : ℕ) → member r j ≡ true → member m j ≡ true) → size r n ≤ size m n
-unfolding size
+pub size-le : (m r n : ℕ) → ((j : ℕ) → member r j ≡ true → member m j ≡ true) → howMany r n ≤ howMany m n
+unfolding howMany
 size-le m r zero h = omega arith
 size-le m r (suc n) h = let a = size-le m r n h in let b = one-le (member r n) (member m n) (h n) in omega arith
   where
-    one-le : (p q : Bool) → (p ≡ true → q ≡ true) → one p ≤ one q
+    one-le : (p q : Bool) → (p ≡ true → q ≡ true) → oneIf p ≤ oneIf q
     one-le true q f = rw (f refl) (omega arith)
     one-le false q f = omega arith
 
-pub size-all : (m n : ℕ) → size m n ≤ n
-unfolding size
+pub size-all : (m n : ℕ) → howMany m n ≤ n
+unfolding howMany
 size-all m zero = omega arith
 size-all m (suc n) = let a = size-all m n in let b = bit (member m n) in omega arith
   where
-    bit : (p : Bool) → one p ≤ 1
+    bit : (p : Bool) → oneIf p ≤ 1
     bit true = omega arith
     bit false = omega arith

@@ -1,16 +1,15 @@
--- Laws of a set's members as a list: who stands in it, how long it is, and what a set without one of its members lists. Assumes nothing.
+-- Laws of a set's members as a list: who stands in it, how long it is, and what a set without oneIf of its members lists. Assumes nothing.
 use mathlib.Core.Path.{_≡_, refl, ap₂, _∙_}
-use mathlib.Core.Bool.{Bool, true, false, not, _&&_}
+use mathlib.Core.Bool.{Bool, true, false, not, _&&_, cond}
 use mathlib.Core.List.{[], _∷_}
 use mathlib.Core.Logic.{_↔_}
 use Prim.Native.Nat.{ℕ, zero, suc, _+_, _^_, _<_}
 use lib.ListN.{length, length-append}
 use lib.Dec.{eqb}
-use Rattle.lists.specs.Choice.{pick}
 use Rattle.lists.specs.Members.{_∈_, those, upto}
 use Rattle.lists.proofs.Tests.{both, and-left, and-right, is-true, of-true}
 use Rattle.lists.proofs.Membership.{those-in, those-out, those-append, those-those, those-same, upto-all, upto-below}
-use Rattle.sets.specs.Set.{member, size, one, members}
+use Rattle.sets.specs.Set.{member, howMany, oneIf, members}
 use Rattle.sets.proofs.Laws.{within}
 
 pub member-listed : (m n x : ℕ) → x < n → member m x ≡ true → x ∈ members m n
@@ -23,16 +22,16 @@ listed-member m n {x} k = let w = those-out (member m) (upto n) k in (upto-below
 pub listed : (m n : ℕ) → m < 2 ^ n → (x : ℕ) → (member m x ≡ true) ↔ (x ∈ members m n)
 listed m n h x = (λ e. member-listed m n x (within n m x h e) e, λ k. listed-member m n k .1)
 
-pub listed-size : (m n : ℕ) → length (members m n) ≡ size m n
-unfolding size upto
+pub listed-size : (m n : ℕ) → length (members m n) ≡ howMany m n
+unfolding howMany upto
 listed-size m zero = refl
 listed-size m (suc n) = rw (those-append (member m) (upto n) (n ∷ []), length-append) (ap₂ (λ a b. a + b) (listed-size m n) (last (member m n)))
   where
-    last : (b : Bool) → length (pick b (n ∷ []) []) ≡ one b
+    last : (b : Bool) → length (cond b (n ∷ []) []) ≡ oneIf b
     last true = refl
     last false = refl
 
--- one taken out of the set is taken out of the list
+-- oneIf taken out of the set is taken out of the list
 pub listed-without : (m r i n : ℕ) → ((j : ℕ) → member r j ≡ (member m j && not (eqb i j))) → members r n ≡ those (λ j. not (eqb i j)) (members m n)
 listed-without m r i n w =
     those-same (member r) (λ j. member m j && not (eqb i j)) (upto n) (λ x k. w x)

@@ -17,14 +17,14 @@ pub record Lowest (m i : ℕ) : Type 0 where
   pub least : (j : ℕ) → j < i → member m j ≡ false
 
 -- 1 where the test holds, else 0
-abbrev pub one : Bool → ℕ
-one true = 1
-one false = 0
+abbrev pub oneIf : Bool → ℕ
+oneIf true = 1
+oneIf false = 0
 
 -- how many of the numbers below n are in m
-unfoldable pub size : ℕ → ℕ → ℕ
-size m zero = 0
-size m (suc n) = size m n + one (member m n)
+unfoldable pub howMany : ℕ → ℕ → ℕ
+howMany m zero = 0
+howMany m (suc n) = howMany m n + oneIf (member m n)
 
 -- the numbers below n that are in m, rising
 abbrev pub members : ℕ → ℕ → List ℕ

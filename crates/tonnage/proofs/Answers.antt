@@ -1,6 +1,6 @@
 -- What the two services answer on each way through their code. Assumes nothing.
 use mathlib.Core.Path.{_≡_, refl, sym, _∙_}
-use mathlib.Core.Bool.{Bool, true, false}
+use mathlib.Core.Bool.{Bool, true, false, cond}
 use mathlib.Core.List.{List, [], _∷_, _++_}
 use Prim.Native.Nat.{ℕ, zero, suc, _+_, _≤_, _<_, _^_, min}
 use native.Mathlib.Nat.{zero-add}
@@ -10,19 +10,18 @@ use lib.ListN.{length, set, length-append}
 use lib.Seq.{sets, sets-eq}
 use lib.IntN.{ℤ, pos, negsuc, negℤ}
 use borrow.Author.Tests.{lt-ltb, le-ltb, ne-eqb}
-use Rattle.lists.specs.Choice.{pick}
 use Rattle.lists.proofs.Stores.{sets-append}
 use Rattle.refusals.specs.Outcome.{gives, refuses}
 use Rattle.refusals.specs.Fault.{first}
 use Rattle.tonnage.specs.declared.figure.Parts.{Parts}
-use Rattle.tonnage.specs.Text.{minus, laid, size, form, figure, signed, beyond, digits, width, below0, tonnes, rest, textOf}
+use Rattle.tonnage.specs.Text.{minus, laid, magnitude, form, figure, signed, tooLarge, digits, width, below0, tonnes, rest, textOf}
 use Rattle.tonnage.specs.Services.{in64, readRows, readText, writeRows, writeText}
 use Rattle.tonnage.proofs.Laying.{and-false}
 use Rattle.tonnage.proofs.Runs.{length-digits}
 
 -- ---- reading
 
--- a size with a minus is within 64 bits up to 2 to the 63
+-- a magnitude with a minus is within 64 bits up to 2 to the 63
 in64-minus : (n : ℕ) → 0 < n → n ≤ 9223372036854775808 → in64 (negℤ (pos n)) ≡ true
 in64-minus zero h k = absurd (omega arith)
 in64-minus (suc n) h k = lt-ltb n (2 ^ 63) (omega arith)
@@ -36,32 +35,32 @@ module _ (text : List ℕ) where
   unfolding readText readRows first form
   unlaid l = rw l
 
-  module _ (s : ℕ) (e : s ≡ min beyond (size text)) where
+  module _ (s : ℕ) (e : s ≡ min tooLarge (magnitude text)) where
     pub minus-zero : minus text ≡ true → s ≡ 0 → readText text ≡ refuses 18 0
     unfolding readText readRows first form
     minus-zero m h =
-        let z : size text ≡ 0 = omega arith in
+        let z : magnitude text ≡ 0 = omega arith in
         simp (m, z, and-false)
 
     module _ (l : laid text ≡ true) where
       pub too-low : minus text ≡ true → 9223372036854775808 < s → readText text ≡ refuses 19 0
       unfolding readText readRows first form figure
-      too-low m h = simp (l, m, ne-eqb (size text) 0 (omega arith), out64-minus (size text) (omega arith))
+      too-low m h = simp (l, m, ne-eqb (magnitude text) 0 (omega arith), out64-minus (magnitude text) (omega arith))
 
       pub too-high : minus text ≡ false → 9223372036854775807 < s → readText text ≡ refuses 19 0
       unfolding readText readRows first form figure
-      too-high m h = simp (l, m, le-ltb (size text) (2 ^ 63) (omega arith))
+      too-high m h = simp (l, m, le-ltb (magnitude text) (2 ^ 63) (omega arith))
 
       low : minus text ≡ true → 0 < s → s ≤ 9223372036854775808 → readText text ≡ gives (negℤ (pos s))
       unfolding readText readRows first form figure
       low m h k =
-          let z : size text ≡ s = omega arith in
+          let z : magnitude text ≡ s = omega arith in
           simp (l, m, z, ne-eqb s 0 (omega arith), in64-minus s h k)
 
       high : minus text ≡ false → s ≤ 9223372036854775807 → readText text ≡ gives (pos s)
       unfolding readText readRows first form figure
       high m k =
-          let z : size text ≡ s = omega arith in
+          let z : magnitude text ≡ s = omega arith in
           simp (l, m, z, lt-ltb s (2 ^ 63) (omega arith))
 
       pub taken : (m : Bool) → m ≡ minus text → (m ≡ true → (0 < s) × (s ≤ 9223372036854775808))
@@ -75,7 +74,7 @@ abbrev pub partsOf : ℤ → Parts
 partsOf z = record { minus = below0 z; tonnes = tonnes z; rest = rest z }
 
 abbrev pub signText : Bool → List ℕ
-signText m = pick m (45 ∷ []) []
+signText m = cond m (45 ∷ []) []
 
 abbrev pub signOf : ℤ → List ℕ
 signOf z = signText (below0 z)

@@ -1,6 +1,6 @@
 -- Laws of texts that are laid out well: the tests of `laid` as facts, and each test that fails. Assumes nothing.
 use mathlib.Core.Path.{_≡_, refl, sym}
-use mathlib.Core.Bool.{Bool, true, false, not, _&&_, false≢true}
+use mathlib.Core.Bool.{Bool, true, false, not, _&&_, false≢true, cond}
 use mathlib.Core.List.{List}
 use Prim.Native.Nat.{ℕ, _+_, _≤_, _<_, min}
 use native.Mathlib.Omega.{arith}
@@ -8,10 +8,9 @@ use lib.ListN.{length, getD}
 use lib.Seq.{slice}
 use lib.Dec.{eqb, ltb}
 use borrow.Author.Tests.{lt-ltb, le-ltb, ltb-true, ltb-false, eq-eqb, ne-eqb, eqb-true, eqb-false, not-true}
-use Rattle.lists.specs.Choice.{pick}
 use Rattle.lists.specs.Search.{firstIn}
 use Rattle.lists.proofs.Searches.{within}
-use Rattle.tonnage.specs.Text.{minus, start, point, other, laid, size, follow, beyond}
+use Rattle.tonnage.specs.Text.{minus, tonnesAt, point, other, laid, magnitude, follow, tooLarge}
 use Rattle.tonnage.proofs.Runs.{held}
 
 -- ---- conjunctions
@@ -26,17 +25,17 @@ and-false false = refl
 
 -- ---- what `laid` tests
 
-pub start-one : (text : List ℕ) (s : ℕ) → s ≡ start text → s ≤ 1
+pub start-one : (text : List ℕ) (s : ℕ) → s ≡ tonnesAt text → s ≤ 1
 start-one text s e = rw e (go (minus text))
   where
-    go : (b : Bool) → pick b 1 0 ≤ 1
+    go : (b : Bool) → cond b 1 0 ≤ 1
     go true = omega arith
     go false = omega arith
 
 pub record Laid (text : List ℕ) : Type 0 where
-  pub long : start text < point text
-  pub whole : point text ≤ firstIn (other text) (start text) (point text)
-  pub lean : getD text (start text) 0 ≡ 48 → point text ≤ start text + 1
+  pub long : tonnesAt text < point text
+  pub whole : point text ≤ firstIn (other text) (tonnesAt text) (point text)
+  pub lean : getD text (tonnesAt text) 0 ≡ 48 → point text ≤ tonnesAt text + 1
   pub comma : getD text (point text) 0 ≡ 44
   pub part : length text ≤ firstIn (other text) (point text + 1) (length text)
 
@@ -73,18 +72,18 @@ facts-laid text l =
 
 -- ---- each test that fails, as code meets it
 
-module _ (text : List ℕ) (s : ℕ) (e : s ≡ start text) where
+module _ (text : List ℕ) (s : ℕ) (e : s ≡ tonnesAt text) where
   pub short : length text ≤ s + 4 → false ≡ laid text
   unfolding laid
-  short h = simp (le-ltb (start text) (point text) (omega arith))
+  short h = simp (le-ltb (tonnesAt text) (point text) (omega arith))
 
   pub stray : (x : ℕ) → x ≡ firstIn (other text) s (point text) → x < point text → false ≡ laid text
   unfolding laid
-  stray x f h = simp (lt-ltb (firstIn (other text) (start text) (point text)) (point text) (rw (f, e) at h), and-false)
+  stray x f h = simp (lt-ltb (firstIn (other text) (tonnesAt text) (point text)) (point text) (rw (f, e) at h), and-false)
 
   pub padded : getD text s 0 ≡ 48 → s + 1 < point text → false ≡ laid text
   unfolding laid
-  padded h k = simp (eq-eqb (getD text (start text) 0) 48 (rw e at h), lt-ltb (start text + 1) (point text) (rw e at k), and-false)
+  padded h k = simp (eq-eqb (getD text (tonnesAt text) 0) 48 (rw e at h), lt-ltb (tonnesAt text + 1) (point text) (rw e at k), and-false)
 
   pub no-comma : (getD text (point text) 0 ≡ 44 → ⊥) → false ≡ laid text
   unfolding laid
@@ -109,9 +108,9 @@ module _ (text : List ℕ) (s : ℕ) (e : s ≡ start text) where
           let less : y < length text = omega (arith, within (other text) (point text + 1) (length text) (omega arith), eqb-false y (length text) q) in
           simp (lt-ltb (firstIn (other text) (point text + 1) (length text)) (length text) (rw f at less), and-false)
 
--- ---- the size, held at most at `beyond`
+-- ---- the magnitude, held at most at `tooLarge`
 
-pub size-held : (text : List ℕ) (s w r : ℕ) → s ≡ start text → w ≡ min beyond (follow 0 (slice s (point text) text))
-    → r ≡ min beyond (follow w (slice (point text + 1) (length text) text)) → r ≡ min beyond (size text)
-unfolding size
-size-held text s w r e f g = rw (g, f, e) (held (follow 0 (slice (start text) (point text) text)) (slice (point text + 1) (length text) text))
+pub size-held : (text : List ℕ) (s w r : ℕ) → s ≡ tonnesAt text → w ≡ min tooLarge (follow 0 (slice s (point text) text))
+    → r ≡ min tooLarge (follow w (slice (point text + 1) (length text) text)) → r ≡ min tooLarge (magnitude text)
+unfolding magnitude
+size-held text s w r e f g = rw (g, f, e) (held (follow 0 (slice (tonnesAt text) (point text) text)) (slice (point text + 1) (length text) text))

@@ -11,26 +11,26 @@ use lib.Seq.{sets, slice, slice-cons, slice-empty}
 use lib.Dec.{ltb, lit<}
 use borrow.Author.Tests.{lt-ltb, le-ltb, ltb-true, ltb-false}
 use Rattle.lists.proofs.Stores.{sets-append, set-after}
-use Rattle.tonnage.specs.Text.{follow, digits, widthIn, width, beyond}
+use Rattle.tonnage.specs.Text.{follow, digits, widthIn, width, tooLarge}
 
--- ---- numbers held at most at `beyond`
+-- ---- numbers held at most at `tooLarge`
 
 -- a number may be held there before the digits that follow
-pub held : (a : ℕ) (cs : List ℕ) → min beyond (follow (min beyond a) cs) ≡ min beyond (follow a cs)
+pub held : (a : ℕ) (cs : List ℕ) → min tooLarge (follow (min tooLarge a) cs) ≡ min tooLarge (follow a cs)
 unfolding follow
 held a [] = omega arith
 held a (c ∷ cs) =
-    let e : min beyond (10 * min beyond a + (c - 48)) ≡ min beyond (10 * a + (c - 48)) = omega arith in
-    sym (held (10 * min beyond a + (c - 48)) cs) ∙ rw e (held (10 * a + (c - 48)) cs)
+    let e : min tooLarge (10 * min tooLarge a + (c - 48)) ≡ min tooLarge (10 * a + (c - 48)) = omega arith in
+    sym (held (10 * min tooLarge a + (c - 48)) cs) ∙ rw e (held (10 * a + (c - 48)) cs)
 
 -- one digit read, and none left
-pub follow-step : (text : List ℕ) (i to n r : ℕ) → i < to → to ≤ length text → r ≡ min beyond (10 * n + (getD text i 0 - 48))
-    → min beyond (follow n (slice i to text)) ≡ min beyond (follow r (slice (i + 1) to text))
+pub follow-step : (text : List ℕ) (i to n r : ℕ) → i < to → to ≤ length text → r ≡ min tooLarge (10 * n + (getD text i 0 - 48))
+    → min tooLarge (follow n (slice i to text)) ≡ min tooLarge (follow r (slice (i + 1) to text))
 unfolding follow
 follow-step text i to n r h k e =
     rw (e, add-one, slice-cons i to text 0 h k) (sym (held (10 * n + (getD text i 0 - 48)) (slice (suc i) to text)))
 
-pub follow-end : (text : List ℕ) (i to n : ℕ) → i ≤ to → to ≤ i → n ≤ beyond → min beyond (follow n (slice i to text)) ≡ n
+pub follow-end : (text : List ℕ) (i to n : ℕ) → i ≤ to → to ≤ i → n ≤ tooLarge → min tooLarge (follow n (slice i to text)) ≡ n
 unfolding follow
 follow-end text i to n h k l = rw (le-antisymm h k, slice-empty to text) (omega arith)
 

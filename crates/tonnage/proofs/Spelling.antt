@@ -1,6 +1,6 @@
 -- Texts by their parts: of the form are exactly those that are spelt of a sign, whole tonnes and three digits. Assumes nothing.
 use mathlib.Core.Path.{_≡_, refl, sym, ap, ap₂, _∙_}
-use mathlib.Core.Bool.{Bool, true, false, not, _&&_, true≢false}
+use mathlib.Core.Bool.{Bool, true, false, not, _&&_, true≢false, cond}
 use mathlib.Core.List.{List, [], _∷_, _++_, append-assoc}
 use Prim.Native.Nat.{ℕ, zero, suc, _+_, _-_, _≤_, _<_}
 use native.Mathlib.Nat.{add-zero}
@@ -10,10 +10,9 @@ use lib.ListN.{length, getD, take, drop, length-append, take-append-drop, List·
 use lib.Seq.{slice, slice-empty, slice-cons, length-slice, take-length, take-at, drop-at, getD-at, getD-append-add, take-take, drop-cons}
 use lib.Dec.{eqb}
 use borrow.Author.Tests.{eqb-true, eqb-false, ne-eqb, not-true}
-use Rattle.lists.specs.Choice.{pick}
 use Rattle.lists.specs.Search.{firstIn}
 use Rattle.lists.proofs.Searches.{miss, done, passed}
-use Rattle.tonnage.specs.Text.{minus, start, point, other, follow, size, laid, form, signed, figure}
+use Rattle.tonnage.specs.Text.{minus, tonnesAt, point, other, follow, magnitude, laid, form, signed, figure}
 use Rattle.lists.specs.Members.{all}
 use Rattle.tonnage.specs.Grammar.{digit}
 use Rattle.tonnage.proofs.Runs.{digit-range, no-other}
@@ -50,10 +49,10 @@ spell-minus false whole part h k =
     ne-eqb (getD (whole ++ (44 ∷ part)) 0 0) 45 (λ e. omega (arith, List·getD-append whole (44 ∷ part) 0 0 h))
 
 module _ (m : Bool) (whole part : List ℕ) (some : 0 < length whole) (first : 48 ≤ getD whole 0 0) (three : length part ≡ 3) where
-  spell-start : start (spell m whole part) ≡ length (signText m)
+  spell-start : tonnesAt (spell m whole part) ≡ length (signText m)
   spell-start = rw (spell-minus m whole part some first) (go m)
     where
-      go : (b : Bool) → pick b 1 0 ≡ length (signText b)
+      go : (b : Bool) → cond b 1 0 ≡ length (signText b)
       go true = refl
       go false = refl
 
@@ -66,11 +65,11 @@ module _ (m : Bool) (whole part : List ℕ) (some : 0 < length whole) (first : 4
   spell-head : length (signText m ++ whole) ≡ point (spell m whole part)
   spell-head = length-append (signText m) whole ∙ sym spell-point
 
-  spell-whole : slice (start (spell m whole part)) (point (spell m whole part)) (spell m whole part) ≡ whole
+  spell-whole : slice (tonnesAt (spell m whole part)) (point (spell m whole part)) (spell m whole part) ≡ whole
   spell-whole =
-      ap (λ (t : List ℕ). drop (start (spell m whole part)) (take (point (spell m whole part)) t)) (sym (append-assoc (signText m) whole (44 ∷ part)))
-      ∙ ap (drop (start (spell m whole part))) (take-at (signText m ++ whole) (44 ∷ part) (point (spell m whole part)) spell-head)
-      ∙ drop-at (signText m) whole (start (spell m whole part)) (sym spell-start)
+      ap (λ (t : List ℕ). drop (tonnesAt (spell m whole part)) (take (point (spell m whole part)) t)) (sym (append-assoc (signText m) whole (44 ∷ part)))
+      ∙ ap (drop (tonnesAt (spell m whole part))) (take-at (signText m ++ whole) (44 ∷ part) (point (spell m whole part)) spell-head)
+      ∙ drop-at (signText m) whole (tonnesAt (spell m whole part)) (sym spell-start)
 
   spell-part : slice (point (spell m whole part) + 1) (length (spell m whole part)) (spell m whole part) ≡ part
   spell-part =
@@ -85,14 +84,14 @@ module _ (m : Bool) (whole part : List ℕ) (some : 0 < length whole) (first : 4
       ap (λ (t : List ℕ). getD t (point (spell m whole part)) 0) (sym (append-assoc (signText m) whole (44 ∷ part)))
       ∙ getD-at (signText m ++ whole) 44 part 0 (point (spell m whole part)) spell-head
 
-  spell-first : getD (spell m whole part) (start (spell m whole part)) 0 ≡ getD whole 0 0
+  spell-first : getD (spell m whole part) (tonnesAt (spell m whole part)) 0 ≡ getD whole 0 0
   spell-first =
       ap (λ (i : ℕ). getD (spell m whole part) i 0) (spell-start ∙ sym (add-zero (length (signText m))))
       ∙ getD-append-add (signText m) (whole ++ (44 ∷ part)) 0 0
       ∙ List·getD-append whole (44 ∷ part) 0 0 some
 
-  spell-size : size (spell m whole part) ≡ follow (follow 0 whole) part
-  unfolding size
+  spell-size : magnitude (spell m whole part) ≡ follow (follow 0 whole) part
+  unfolding magnitude
   spell-size = ap₂ (λ (a b : List ℕ). follow (follow 0 a) b) spell-whole spell-part
 
 -- ---- the form
@@ -120,7 +119,7 @@ spell-laid m whole part some wd lean three pd =
     let c = spell-length m whole part some first three in
     record {
       long = omega (arith, a, b);
-      whole = each-passed (length whole) (start text) (point text) text (omega (arith, a, b)) (omega (arith, b, c)) (rw (spell-whole m whole part some first three) wd);
+      whole = each-passed (length whole) (tonnesAt text) (point text) text (omega (arith, a, b)) (omega (arith, b, c)) (rw (spell-whole m whole part some first three) wd);
       lean = λ e. omega (arith, a, b, lean (sym (spell-first m whole part some first three) ∙ e));
       comma = spell-comma m whole part some first three;
       part = each-passed 3 (point text + 1) (length text) text (omega (arith, b, c)) (omega arith) (rw (spell-part m whole part some first three) pd);
@@ -144,18 +143,18 @@ spelt-figure {m} {whole} {part} s =
     rw (s .spelt, spell-minus m whole part (s .some) first, spell-size m whole part (s .some) first (s .three))
 
 -- the sign of a text, spelt
-sign-front : (text : List ℕ) → take (start text) text ≡ signText (minus text)
+sign-front : (text : List ℕ) → take (tonnesAt text) text ≡ signText (minus text)
 sign-front [] = refl
 sign-front (c ∷ cs) = go (eqb c 45) refl
   where
-    go : (b : Bool) → eqb c 45 ≡ b → take (pick b 1 0) (c ∷ cs) ≡ signText b
+    go : (b : Bool) → eqb c 45 ≡ b → take (cond b 1 0) (c ∷ cs) ≡ signText b
     go true e = ap (λ (x : ℕ). x ∷ []) (eqb-true c 45 e)
     go false e = refl
 
-split-text : (text : List ℕ) → start text < point text → getD text (point text) 0 ≡ 44
-    → text ≡ spell (minus text) (slice (start text) (point text) text) (slice (point text + 1) (length text) text)
+split-text : (text : List ℕ) → tonnesAt text < point text → getD text (point text) 0 ≡ 44
+    → text ≡ spell (minus text) (slice (tonnesAt text) (point text) text) (slice (point text + 1) (length text) text)
 split-text text long comma =
-    let s : ℕ = start text in
+    let s : ℕ = tonnesAt text in
     let p : ℕ = point text in
     let whole : List ℕ = slice s p text in
     let part : List ℕ = slice (p + 1) (length text) text in
@@ -168,21 +167,21 @@ no-minus-zero true n e h = omega (arith, eqb-false n 0 (not-true (eqb n 0) e))
 no-minus-zero false n e h = absurd (true≢false (sym h))
 
 pub form-spelt : (text : List ℕ) → form text ≡ true
-    → Spelt (minus text) (slice (start text) (point text) text) (slice (point text + 1) (length text) text) text
-unfolding form size
+    → Spelt (minus text) (slice (tonnesAt text) (point text) text) (slice (point text + 1) (length text) text) text
+unfolding form magnitude
 form-spelt text e =
-    let b = and-both (laid text) (not (minus text && eqb (size text) 0)) e in
+    let b = and-both (laid text) (not (minus text && eqb (magnitude text) 0)) e in
     let l = laid-facts text (b .0) in
     let long = l .long in
-    let wn = length-slice (start text) (point text) text (omega arith) in
+    let wn = length-slice (tonnesAt text) (point text) text (omega arith) in
     let pn = length-slice (point text + 1) (length text) text (omega arith) in
-    let first = ap (λ (t : List ℕ). getD t 0 0) (slice-cons (start text) (point text) text 0 long (omega arith)) in
+    let first = ap (λ (t : List ℕ). getD t 0 0) (slice-cons (tonnesAt text) (point text) text 0 long (omega arith)) in
     record {
       spelt = split-text text long (l .comma);
       some = omega arith;
-      whole-digits = passed-each (point text - start text) (start text) (point text) text (omega arith) (omega arith) (l .whole);
+      whole-digits = passed-each (point text - tonnesAt text) (tonnesAt text) (point text) text (omega arith) (omega arith) (l .whole);
       lean = λ h. omega (arith, l .lean (sym first ∙ h));
       three = omega arith;
       part-digits = passed-each 3 (point text + 1) (length text) text (omega arith) (omega arith) (l .part);
-      above-zero = no-minus-zero (minus text) (size text) (b .1);
+      above-zero = no-minus-zero (minus text) (magnitude text) (b .1);
     }

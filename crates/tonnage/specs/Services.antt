@@ -33,7 +33,7 @@ read (Kilograms z) = gives z
 read (Unread r) = refuses (r .number) (r .place)
 
 -- what the writer answers, and what it leaves in the lent buffer
-pub record Written : Type 0 where
+pub record WrittenText : Type 0 where
   pub answer : Outcome ℕ
   pub text : List ℕ
 
@@ -42,11 +42,11 @@ unfoldable pub writeRows : List ℕ → ℤ → List Row
 writeRows buffer z = row 20 0 (ltb (length buffer) (length (textOf z))) ∷ []
 
 -- "The writer fills the front of a lent text buffer, gives the length, and leaves the bytes after it."
-unfoldable pub writeText : List ℕ → ℤ → Written
+unfoldable pub writeText : List ℕ → ℤ → WrittenText
 writeText buffer z =
     let wrong = first (writeRows buffer z) in
     record { answer = judged wrong (length (textOf z)); text = after wrong (textOf z ++ drop (length (textOf z)) buffer) buffer }
 
 -- the answer of the writer as an outcome, with the buffer as it is at the end
-abbrev pub wrote : Answer → List ℕ → Written
+abbrev pub wrote : Answer → List ℕ → WrittenText
 wrote a buffer = record { answer = outcome a; text = buffer }

@@ -4,7 +4,7 @@ ghost use Prim.Native.Nat.{_+_, _*_, _-_, _≤_, _<_, min};
 ghost use lib.ListN.{length};
 ghost use lib.Seq.{sets, slice};
 ghost use Rattle.lists.specs.Search.{firstIn};
-ghost use Rattle.tonnage.specs.Text.{other, follow, digits, width, beyond};
+ghost use Rattle.tonnage.specs.Text.{other, follow, digits, width, tooLarge};
 
 // The first number that no figure of signed 64 bits reaches, with or without a minus.
 pub const BEYOND: u64 = 9223372036854775809;
@@ -32,8 +32,8 @@ pub(crate) fn first_other(text: &[u8], from: usize, to: usize) -> usize
 
 // A number with one more digit behind it; BEYOND for all that is as large or larger.
 fn with_digit(n: u64, digit: u8) -> u64
-    requires { ⌜ (n ≤ beyond) × (48 ≤ digit) × (digit ≤ 57) ⌝ }
-    ensures { λ r. ⌜ r ≡ min beyond (10 * n + (digit - 48)) ⌝ }
+    requires { ⌜ (n ≤ tooLarge) × (48 ≤ digit) × (digit ≤ 57) ⌝ }
+    ensures { λ r. ⌜ r ≡ min tooLarge (10 * n + (digit - 48)) ⌝ }
 {
     if n > MOST_BEFORE {
         return BEYOND;
@@ -45,9 +45,9 @@ fn with_digit(n: u64, digit: u8) -> u64
 // BEYOND for all that is as large or larger.
 pub(crate) fn follow(text: &[u8], from: usize, to: usize, n: u64) -> u64
     requires { ⌜ (from ≤ to) × (to ≤ length (now text)) ⌝ }
-    requires { ⌜ n ≤ beyond ⌝ }
+    requires { ⌜ n ≤ tooLarge ⌝ }
     requires { ⌜ to ≤ firstIn (other (now text)) from to ⌝ }
-    ensures { λ r. ⌜ r ≡ min beyond (follow n (slice from to (now (text .entry)))) ⌝ }
+    ensures { λ r. ⌜ r ≡ min tooLarge (follow n (slice from to (now (text .entry)))) ⌝ }
 {
     let mut sum = n;
     let mut i = from;

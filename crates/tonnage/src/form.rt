@@ -1,7 +1,7 @@
 // The form of a tonnage text.
 use crate::digits;
 ghost use mathlib.Core.Path.{_≡_};
-ghost use Rattle.tonnage.specs.Text.{minus, start, laid};
+ghost use Rattle.tonnage.specs.Text.{minus, tonnesAt, laid};
 
 // How many bytes the comma and the three digits behind it take.
 pub const TAIL: usize = 4;
@@ -18,7 +18,7 @@ pub fn minus(text: &[u8]) -> bool
 
 // Where the whole tonnes begin.
 pub fn start(text: &[u8]) -> usize
-    ensures { λ r. ⌜ r ≡ start (now (text .entry)) ⌝ }
+    ensures { λ r. ⌜ r ≡ tonnesAt (now (text .entry)) ⌝ }
 {
     if minus(text) { 1 } else { 0 }
 }

@@ -9,7 +9,7 @@ ghost use mathlib.Core.Path.{_≡_};
 ghost use mathlib.Core.Bool.{true};
 ghost use Prim.Native.Nat.{min};
 ghost use Rattle.refusals.specs.Outcome.{refuses};
-ghost use Rattle.tonnage.specs.Text.{laid, size, beyond};
+ghost use Rattle.tonnage.specs.Text.{laid, magnitude, tooLarge};
 ghost use Rattle.tonnage.specs.Services.{read, readText, wrote, writeText};
 
 // The largest size of a figure with a minus, and of one without.
@@ -20,7 +20,7 @@ const HIGHEST: u64 = 9223372036854775807;
 // The size of a text that is laid out well; BEYOND for all that is as large or larger.
 fn size(text: &[u8]) -> u64
     requires { ⌜ laid (now text) ≡ true ⌝ }
-    ensures { λ r. ⌜ r ≡ min beyond (size (now (text .entry))) ⌝ }
+    ensures { λ r. ⌜ r ≡ min tooLarge (magnitude (now (text .entry))) ⌝ }
 {
     let start = form::start(text);
     let point = text.len() - form::TAIL;

@@ -1,14 +1,15 @@
 // Whether a page has no fault: one question, which nearly every page answers with yes.
 use crate::layout;
-use crate::page::check;
 use crate::page::counts;
 use crate::page::held;
+use crate::rules;
 use octets::bytes;
 use octets::weight;
 use refusals::Finding;
 ghost use mathlib.Core.Path.{_≡_};
 ghost use Rattle.refusals.specs.Fault.{first, isClear};
-ghost use Rattle.ledger.specs.Page.{pageTx, pageFault, entryRows, Counted};
+ghost use Rattle.ledger.specs.Page.{pageTx, pageFault, readsRows, writesRows};
+ghost use Rattle.ledger.specs.Inner.{Counted};
 ghost use Rattle.ledger.specs.Good.{framed, closed};
 
 // 1 and 3 to 5: the length, the mark, byte 3 and the counts.
@@ -46,14 +47,61 @@ fn closed(page: &[u8]) -> bool
     weight::weigh_used(page, spare) == bytes::le4(page, layout::CHECK)
 }
 
-// 6 to 9: the entries.
-fn entered(page: &[u8]) -> bool
+// 6 and 7: one search over the reads. Keys that rise are at most 1023 where the last one is.
+fn reads_good(page: &[u8]) -> bool
     requires { ⌜ Counted (now page) ⌝ }
-    ensures { λ b. ⌜ b ≡ isClear (first (entryRows (pageTx (now (page .entry))))) ⌝ }
+    ensures { λ b. ⌜ b ≡ isClear (first (readsRows (pageTx (now (page .entry))))) ⌝ }
 {
-    let found = check::entry_fault(page);
-    if let Finding::Found { refusal: _ } = found {
+    let n = held::reads(page);
+    if n == 0 {
+        return true;
+    }
+    let last = held::read(page, n - 1);
+    if last.key > layout::LAST_KEY {
         return false;
+    }
+    let mut floor: u32 = 0;
+    let mut i = 0;
+    while i < n {
+        let read = held::read(page, i);
+        let version = read.version;
+        if (read.key as u32) < floor {
+            return false;
+        }
+        if rules::version_wrong(version) {
+            return false;
+        }
+        floor = (read.key as u32) + 1;
+        i += 1;
+    }
+    true
+}
+
+// 8 and 9: the same over the writes.
+fn writes_good(page: &[u8]) -> bool
+    requires { ⌜ Counted (now page) ⌝ }
+    ensures { λ b. ⌜ b ≡ isClear (first (writesRows (pageTx (now (page .entry))))) ⌝ }
+{
+    let n = held::writes(page);
+    if n == 0 {
+        return true;
+    }
+    let last = held::write(page, n - 1);
+    if last.key > layout::LAST_KEY {
+        return false;
+    }
+    let mut floor: u32 = 0;
+    let mut i = 0;
+    while i < n {
+        let write = held::write(page, i);
+        if (write.key as u32) < floor {
+            return false;
+        }
+        if rules::kind_wrong(write) {
+            return false;
+        }
+        floor = (write.key as u32) + 1;
+        i += 1;
     }
     true
 }
@@ -68,5 +116,8 @@ pub(crate) fn good(page: &[u8]) -> bool
     if !closed(page) {
         return false;
     }
-    entered(page)
+    if !reads_good(page) {
+        return false;
+    }
+    writes_good(page)
 }

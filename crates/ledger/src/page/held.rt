@@ -8,7 +8,8 @@ ghost use mathlib.Core.Path.{_≡_};
 ghost use Prim.Native.Nat.{_+_, _≤_, _<_};
 ghost use lib.ListN.{length};
 ghost use Rattle.ledger.specs.Tx.{readOf, writeOf};
-ghost use Rattle.ledger.specs.Page.{pageTx, writeAt, Counted};
+ghost use Rattle.ledger.specs.Page.{pageTx, writeAt};
+ghost use Rattle.ledger.specs.Inner.{Counted};
 
 // The ticket.
 pub fn ticket(page: &[u8]) -> u32

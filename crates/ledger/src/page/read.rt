@@ -14,8 +14,9 @@ ghost use Prim.Native.Nat.{_-_};
 ghost use lib.ListN.{length, replicate};
 ghost use Rattle.octets.specs.Bytes.{Small};
 ghost use Rattle.ledger.specs.Tx.{padded, noRead, noWrite, TransactionFits};
-ghost use Rattle.ledger.specs.Page.{pageTx, Counted};
-ghost use Rattle.ledger.specs.Services.{none, taken, readPage};
+ghost use Rattle.ledger.specs.Page.{pageTx};
+ghost use Rattle.ledger.specs.Inner.{Counted};
+ghost use Rattle.ledger.specs.Services.{noTransaction, taken, readPage};
 
 const NO_READ: Read = Read {
     key: 0,
@@ -81,7 +82,7 @@ fn transaction(page: &[u8]) -> Transaction
 
 // No transaction.
 fn nothing() -> Transaction
-    ensures { λ t. ⌜ t ≡ none ⌝ }
+    ensures { λ t. ⌜ t ≡ noTransaction ⌝ }
 {
     let reads = [NO_READ; layout::MOST_ENTRIES];
     let writes = [NO_WRITE; layout::MOST_ENTRIES];

@@ -5,7 +5,7 @@ use Rattle.lists.specs.Search.{someIn}
 use borrow.Author.Needs.{needs}
 use lib.Dec.{eqb}
 use lib.ListN.{getD}
-use mathlib.Core.Path.{_≡_, sym, _∙_}
+use mathlib.Core.Path.{sym, _∙_}
 use native.Mathlib.Omega.{arith}
 use Rattle.ledger.proofs.batch.first_again.Statement.{statement}
 use Rattle.ledger.proofs.batch.first_again.Tie as tie

@@ -4,7 +4,7 @@ use Rattle.ledger.specs.State.{State, stateOf}
 use Rattle.refusals.specs.Fault.{finding}
 use borrow.Author.Needs.{needs}
 use denote.Ref.{now}
-use mathlib.Core.Path.{_≡_, sym, ap, _∙_}
+use mathlib.Core.Path.{sym, ap, _∙_}
 use Rattle.ledger.proofs.batch.front_fault.Statement.{statement}
 use Rattle.ledger.proofs.batch.front_fault.Tie as tie
 

@@ -7,7 +7,8 @@ use borrow.Author.Needs.{needs}
 use denote.Ref.{now}
 use Rattle.ledger.specs.declared.Read.{Read}
 use Rattle.ledger.specs.declared.Write.{Write}
-use Rattle.ledger.specs.Page.{pageTx, Counted}
+use Rattle.ledger.specs.Page.{pageTx}
+use Rattle.ledger.specs.Inner.{Counted}
 use Rattle.ledger.proofs.Pages.{good-counted}
 use Rattle.ledger.proofs.Rising.{last-beyond, last-within, none-within, read-keys, write-keys, readKey, writeKey, readsBeyond, by-reads, by-writes}
 use Rattle.ledger.proofs.batch.reaches_beyond.Statement.{statement}

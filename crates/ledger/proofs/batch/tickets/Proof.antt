@@ -2,11 +2,10 @@
 use Prim.Native.Nat.{_-_, _≤_}
 use Rattle.ledger.proofs.Gated.{page-long}
 use Rattle.ledger.proofs.Tickets.{Gathering, gathering-begins, gathering-turns}
-use Rattle.ledger.specs.Gate.{TicketsOf}
 use Rattle.ledger.specs.Page.{pageTx}
 use borrow.Author.Needs.{needs}
 use denote.Ref.{now}
-use mathlib.Core.Path.{_≡_, refl, ap, _∙_}
+use mathlib.Core.Path.{refl, ap, _∙_}
 use native.Mathlib.Omega.{arith}
 use Rattle.ledger.proofs.batch.tickets.Statement.{statement}
 use Rattle.ledger.proofs.batch.tickets.Tie as tie

@@ -4,9 +4,10 @@ use Prim.Native.Nat.{_+_, _*_, _-_, _≤_, _<_}
 use denote.Ref.{now}
 use lib.ListN.{length}
 use Rattle.ledger.specs.declared.Write.{Write}
-use Rattle.ledger.specs.Page.{readCount, pageTx, Counted}
+use Rattle.ledger.specs.Page.{readCount, pageTx}
 use Rattle.ledger.specs.Tx.{writeOf}
 use Rattle.ledger.specs.State.{stateOf, store}
+use Rattle.ledger.specs.Inner.{Counted}
 use Rattle.ledger.proofs.Pages.{good-counted}
 use Rattle.ledger.proofs.Rising.{below, write-kinds}
 use Rattle.ledger.proofs.OnPage.{count-reads, count-writes, write-from}

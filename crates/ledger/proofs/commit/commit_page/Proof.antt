@@ -1,6 +1,5 @@
 -- `commit_page`: the version check decides.
 use mathlib.Core.Path.{sym, _∙_}
-use denote.Ref.{now}
 use borrow.Author.Tests.{not-true, not-false}
 use Rattle.ledger.specs.State.{stateOf}
 use Rattle.ledger.proofs.Commits.{page-fails, page-passes}

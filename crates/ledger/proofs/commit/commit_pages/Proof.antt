@@ -1,6 +1,6 @@
 -- `commit_pages`: the pages in the order's turn.
 use mathlib.Core.Path.{_≡_, sym, ap, _∙_}
-use mathlib.Core.Bool.{Bool, true, false}
+use mathlib.Core.Bool.{Bool, true, false, cond}
 use mathlib.Core.Logic.{⊎-elim}
 use mathlib.Core.List.{List}
 use Prim.Native.Nat.{ℕ, _+_, _-_, _≤_, _<_}
@@ -9,7 +9,6 @@ use native.Mathlib.Omega.{arith}
 use borrow.Author.Needs.{needs}
 use denote.Ref.{now}
 use lib.ListN.{length, getD, set}
-use Rattle.lists.specs.Choice.{pick}
 use Rattle.ledger.specs.Gate.{txAt, txsIn}
 use Rattle.ledger.specs.Page.{pageTx}
 use Rattle.ledger.specs.State.{State, stateOf}
@@ -61,8 +60,8 @@ next : (v : tie.After-values Inv-loop μ-loop) (b : Bool) (count : ℕ) (verdict
     let t = turn v in
     let s = start t in
     p .commit-page .result ≡ b
-    → count ≡ t .before .loop .count + pick b 1 0
-    → verdicts ≡ set (t .before .loop .verdicts) (t .before .loop .i) (pick b 0 3)
+    → count ≡ t .before .loop .count + cond b 1 0
+    → verdicts ≡ set (t .before .loop .verdicts) (t .before .loop .i) (cond b 0 3)
     → Committing (named (now (s .args .batch)) (now (s .args .order))) (entered s) (s .args .n) (now (s .args .verdicts)) (t .before .loop .i + 1) count
     (stateOf (p .commit-page .last .1 .0) (p .commit-page .last .1 .1 .0) (p .commit-page .last .1 .1 .1 .0)) verdicts
 next v b count verdicts e f g =

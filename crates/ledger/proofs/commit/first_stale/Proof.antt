@@ -11,9 +11,10 @@ use Rattle.lists.proofs.Loops.{Unfound, begins, found, passes, ends}
 use Rattle.ledger.specs.declared.Read.{Read}
 use Rattle.ledger.specs.Version.{same}
 use Rattle.ledger.specs.Tx.{readOf}
-use Rattle.ledger.specs.Page.{pageTx, Counted}
+use Rattle.ledger.specs.Page.{pageTx}
 use Rattle.ledger.specs.State.{versionsIn}
 use Rattle.ledger.specs.Commit.{names}
+use Rattle.ledger.specs.Inner.{Counted}
 use Rattle.ledger.proofs.Pages.{good-counted}
 use Rattle.ledger.proofs.Rising.{below}
 use Rattle.ledger.proofs.commit.first_stale.Statement.{statement}

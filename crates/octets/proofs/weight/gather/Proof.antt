@@ -5,13 +5,13 @@ use borrow.Author.Needs.{needs}
 use native.Mathlib.Nat.{le-antisymm}
 use native.Mathlib.Omega.{arith}
 use lib.ListN.{getD}
-use Rattle.octets.specs.Columns.{gathered}
+use Rattle.octets.specs.Columns.{byColumns}
 use Rattle.octets.proofs.Columns.{gathered-next, column-le}
 use Rattle.octets.proofs.weight.gather.Statement.{statement}
 use Rattle.octets.proofs.weight.gather.Tie as tie
 
 abbrev Inv-loop : tie.InvT-loop
-Inv-loop sums runs total₀ c₀ total c = (c ≤ 48) × (total ≡ gathered sums runs c) × (total ≤ 6291360 * c)
+Inv-loop sums runs total₀ c₀ total c = (c ≤ 48) × (total ≡ byColumns sums runs c) × (total ≤ 6291360 * c)
 
 abbrev μ-loop : tie.MeasureT-loop
 μ-loop sums runs total₀ c₀ total c = 48 - c
@@ -27,7 +27,7 @@ term : (c : tie.In-loop Inv-loop μ-loop) → (c .before .loop .c + 1) * getD (c
 term c = column-le (omega arith) (sum-lane c)
 
 loop-holds : tie.Need-loop-holds Inv-loop μ-loop
-unfolding gathered
+unfolding byColumns
 loop-holds c = search needs
 
 cast-total : tie.Need-cast-total Inv-loop μ-loop
@@ -82,7 +82,7 @@ loop-again c =
     )
 
 returns : tie.Need-returns Inv-loop μ-loop
-returns c = let h = c .before in h .loop .inv .1 ∙ ap (gathered _ _) (le-antisymm (h .loop .inv .0) (c .loop-test .left))
+returns c = let h = c .before in h .loop .inv .1 ∙ ap (byColumns _ _) (le-antisymm (h .loop .inv .0) (c .loop-test .left))
 
 pub gather-spec : {M : Type 1} → statement M
 gather-spec =

@@ -10,7 +10,7 @@ use borrow.Author.Tests.{not-true, not-false}
 use Rattle.lists.specs.Members.{upto}
 use Rattle.lists.proofs.Tests.{clash}
 use Rattle.orders.specs.Admission.{admit}
-use Rattle.orders.specs.Walk.{Holds}
+use Rattle.orders.specs.Walk.{Lists}
 use Rattle.orders.proofs.Worklist.{holds-none, keeps, drops, awaits-more}
 use Rattle.sets.specs.Set.{member}
 use Rattle.sets.proofs.Laws.{none}
@@ -19,7 +19,7 @@ use Rattle.planner.proofs.admission.admitted.Statement.{statement}
 use Rattle.planner.proofs.admission.admitted.Tie as tie
 
 abbrev Inv-loop : tie.InvT-loop
-Inv-loop blockers count kept₀ awaited₀ t₀ kept awaited t = (t ≤ count) × Holds (member kept) (admit (demands blockers) [] (upto t)) × Awaits blockers kept awaited
+Inv-loop blockers count kept₀ awaited₀ t₀ kept awaited t = (t ≤ count) × Lists (member kept) (admit (demands blockers) [] (upto t)) × Awaits blockers kept awaited
 
 abbrev μ-loop : tie.MeasureT-loop
 μ-loop blockers count kept₀ awaited₀ t₀ kept awaited t = count - t

@@ -6,7 +6,7 @@ use native.Mathlib.Omega.{arith}
 use borrow.Author.Needs.{needs}
 use denote.Ref.{now}
 use lib.ListN.{length, drop, set}
-use Rattle.lists.specs.Choice.{pick}
+use mathlib.Core.Bool.{cond}
 use Rattle.sets.specs.Set.{member}
 use Rattle.lists.specs.Tables.{tab}
 use Rattle.planner.proofs.Filling.{fills, fills-long}
@@ -14,7 +14,7 @@ use Rattle.planner.proofs.fill.fill_verdicts.Statement.{statement}
 use Rattle.planner.proofs.fill.fill_verdicts.Tie as tie
 
 abbrev Inv-loop : tie.InvT-loop
-Inv-loop verdicts₀ m current kept i₀ verdicts i = (i ≤ m) × (verdicts ≡ tab i (λ j. pick (member current j) (pick (member kept j) 0 2) 1) ++ drop i verdicts₀)
+Inv-loop verdicts₀ m current kept i₀ verdicts i = (i ≤ m) × (verdicts ≡ tab i (λ j. cond (member current j) (cond (member kept j) 0 2) 1) ++ drop i verdicts₀)
 
 abbrev μ-loop : tie.MeasureT-loop
 μ-loop verdicts₀ m current kept i₀ verdicts i = m - i
@@ -48,8 +48,8 @@ loop-again : tie.Need-loop-again Inv-loop μ-loop
 loop-again c =
     let t = c .before .before .before in
     let h = t .before .loop in
-    let v : c .verdict .result ≡ pick (member (t .before .before .before .args .current) (h .i)) (pick (member (t .before .before .before .args .kept) (h .i)) 0 2) 1 =
-    c .verdict .ensures ∙ ap₂ (λ a b. pick a (pick b 0 2) 1) (c .before .before .has .ensures) (c .before .has2 .ensures) in (
+    let v : c .verdict .result ≡ cond (member (t .before .before .before .args .current) (h .i)) (cond (member (t .before .before .before .args .kept) (h .i)) 0 2) 1 =
+    c .verdict .ensures ∙ ap₂ (λ a b. cond a (cond b 0 2) 1) (c .before .before .has .ensures) (c .before .has2 .ensures) in (
       omega (arith, t .loop-test .taken),
       ap₂ (λ l x. set l (h .i) x) (h .inv .1) v ∙ fills _ (h .i) _ (omega (arith, t .loop-test .taken, t .before .before .before .pre .0)),
     )

@@ -1,5 +1,4 @@
 -- `plan_batch`: the stages of the gate in turn, then the pages.
-use Prim.Native.Nat.{_*_}
 use Rattle.ledger.proofs.Gated.{front-whole, gate-front, gate-own, gate-pages, Through, through}
 use Rattle.ledger.specs.Gate.{pages, lentRow, frontRows, pagesRows, gateFault}
 use Rattle.ledger.specs.State.{State, stateOf, keys}
@@ -12,7 +11,7 @@ use borrow.Author.Tests.{lt-ltb, le-ltb, ltb-false}
 use denote.Ref.{now}
 use lib.Dec.{ltb}
 use lib.ListN.{length}
-use mathlib.Core.Bool.{true, _||_}
+use mathlib.Core.Bool.{true}
 use mathlib.Core.List.{List, []}
 use mathlib.Core.Logic.{⊎-elim}
 use mathlib.Core.Path.{_≡_, refl, sym, ap, _∙_}

@@ -11,14 +11,14 @@ use Rattle.ledger.specs.Page.{pageTx}
 use Rattle.ledger.specs.Gate.{txAt}
 use Rattle.ledger.proofs.Gated.{page-long}
 use Rattle.report.specs.Put.{Put}
-use Rattle.report.specs.Listing.{pageLine, placed}
+use Rattle.report.specs.Listing.{pageLine, placeText}
 use Rattle.report.proofs.Puts.{none, put-as, more-lines}
 use Rattle.report.proofs.lines.put_pages.Statement.{statement}
 use Rattle.report.proofs.lines.put_pages.Tie as tie
 
 -- the lines of the pages, by index
 abbrev lines : List ℕ → List ℕ → List ℕ → ℕ → ℕ → List ℕ
-lines batch verdicts order k i = pageLine (txAt batch i .ticket) (getD verdicts i 0) (placed order k i)
+lines batch verdicts order k i = pageLine (txAt batch i .ticket) (getD verdicts i 0) (placeText order k i)
 
 abbrev Inv-loop : tie.InvT-loop
 Inv-loop out₀ at batch verdicts order k m next₀ i₀ out next i =
@@ -64,7 +64,7 @@ loop-again c =
       omega (arith, n .loop-test .taken),
       omega (arith, p .put-page .kept .0, l .loop .inv .1),
       omega (arith, p .put-page .ensures .0, l .loop .inv .2),
-      more-lines _ _ _ _ _ _ _ _ _ (ap (λ (x : ℕ). pageLine x v (placed (now (a .order)) (a .k) (l .loop .i))) e) (l .loop .inv .3) (p .put-page .ensures .1),
+      more-lines _ _ _ _ _ _ _ _ _ (ap (λ (x : ℕ). pageLine x v (placeText (now (a .order)) (a .k) (l .loop .i))) e) (l .loop .inv .3) (p .put-page .ensures .1),
     )
 
 same-length : tie.Need-same-length Inv-loop μ-loop

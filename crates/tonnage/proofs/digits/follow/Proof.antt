@@ -6,13 +6,13 @@ use borrow.Author.Needs.{needs}
 use lib.Seq.{slice}
 use Rattle.lists.specs.Search.{firstIn}
 use Rattle.lists.proofs.Searches.{passed}
-use Rattle.tonnage.specs.Text.{other, follow, beyond}
+use Rattle.tonnage.specs.Text.{other, follow, tooLarge}
 use Rattle.tonnage.proofs.Runs.{digit-range, follow-step, follow-end}
 use Rattle.tonnage.proofs.digits.follow.Statement.{statement}
 use Rattle.tonnage.proofs.digits.follow.Tie as tie
 
 abbrev Inv-loop : tie.InvT-loop
-Inv-loop text from to n sum₀ i₀ sum i = (i ≤ to) × (sum ≤ beyond) × (to ≤ firstIn (other text) i to) × (min beyond (follow n (slice from to text)) ≡ min beyond (follow sum (slice i to text)))
+Inv-loop text from to n sum₀ i₀ sum i = (i ≤ to) × (sum ≤ tooLarge) × (to ≤ firstIn (other text) i to) × (min tooLarge (follow n (slice from to text)) ≡ min tooLarge (follow sum (slice i to text)))
 
 abbrev μ-loop : tie.MeasureT-loop
 μ-loop text from to n sum₀ i₀ sum i = to - i

@@ -5,7 +5,8 @@ use borrow.Author.Needs.{needs}
 use denote.Ref.{now}
 use Rattle.refusals.specs.Fault.{clear}
 use Rattle.refusals.proofs.Rows.{clear-is}
-use Rattle.ledger.specs.Page.{pageFault, Counted}
+use Rattle.ledger.specs.Page.{pageFault}
+use Rattle.ledger.specs.Inner.{Counted}
 use Rattle.ledger.proofs.OnPage.{count-reads, count-writes}
 use Rattle.ledger.proofs.Faults.{check-taken}
 use Rattle.ledger.proofs.Pages.{good-counted}

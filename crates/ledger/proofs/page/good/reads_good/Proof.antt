@@ -1,0 +1,130 @@
+-- `reads_good`: the reads up to i, and the last key.
+use mathlib.Core.Path.{_≡_, sym, ap, _∙_}
+use mathlib.Core.Bool.{Bool}
+use Prim.Native.Nat.{ℕ, _-_, _<_}
+use native.Mathlib.Omega.{arith}
+use borrow.Author.Needs.{needs}
+use denote.Ref.{now}
+use lib.ListN.{length}
+use Rattle.ledger.specs.declared.Read.{Read}
+use Rattle.ledger.specs.Tx.{Tx, readOf, wrongVersion}
+use Rattle.ledger.specs.Page.{pageTx}
+use Rattle.ledger.proofs.Rising.{readKey}
+use Rattle.ledger.proofs.Entering.{Entering, entering-begins, entering-turns, entering-ends, empty-good, too-high, falls, is-wrong}
+use Rattle.ledger.proofs.page.good.reads_good.Statement.{statement}
+use Rattle.ledger.proofs.page.good.reads_good.Tie as tie
+
+-- a read is wrong behind its key
+abbrev wrong : Tx → ℕ → Bool
+wrong t = (λ j. wrongVersion (readOf (t .reads) j .version))
+
+abbrev Inv-loop : tie.InvT-loop
+Inv-loop page n floor₀ i₀ floor i = Entering 6 7 (readKey (pageTx page)) (wrong (pageTx page)) (length (pageTx page .reads)) floor i
+
+abbrev μ-loop : tie.MeasureT-loop
+μ-loop page n floor₀ i₀ floor i = n - i
+
+-- a turn's index is one of a read, and its key and test are those of the transaction
+within : (c : tie.In-loop Inv-loop μ-loop) → c .before .loop .i < length (pageTx (now (c .before .before .before .before .before .before .before .before .args .page)) .reads)
+within c = omega (arith, c .loop-test .taken, c .before .before .before .before .before .before .reads .ensures)
+
+key-is : (c : tie.After-read2 Inv-loop μ-loop)
+    → c .read2 .result .key ≡ readKey (pageTx (now (c .before .before .before .before .before .before .before .before .before .args .page))) (c .before .before .loop .i)
+key-is c = ap (λ (x : Read). x .key) (c .read2 .ensures)
+
+test-is : (c : tie.After-version-wrong Inv-loop μ-loop) → let r = c .before .before .before .before in
+    c .version-wrong .result ≡ wrong (pageTx (now (r .before .before .before .before .before .before .before .before .before .args .page))) (r .before .before .loop .i)
+test-is c = let r = c .before .before .before .before in c .version-wrong .ensures ∙ ap (λ (x : Read). wrongVersion (x .version)) (r .read2 .ensures)
+
+last-is : (c : tie.After-read Inv-loop μ-loop) → let p = now (c .before .before .before .before .args .page) in
+    c .read .result .key ≡ readKey (pageTx p) (length (pageTx p .reads) - 1)
+last-is c =
+    let p = now (c .before .before .before .before .args .page) in
+    ap (λ (x : Read). x .key) (c .read .ensures) ∙ ap (λ n. readKey (pageTx p) (n - 1)) (c .before .before .reads .ensures)
+
+reads-requires : tie.Need-reads-requires Inv-loop μ-loop
+reads-requires c κs = search needs
+
+returns : tie.Need-returns Inv-loop μ-loop
+returns c = empty-good 6 7 _ _ _ (sym (c .before .reads .ensures) ∙ c .if1 .taken)
+
+sub-read : tie.Need-sub-read Inv-loop μ-loop
+sub-read c = search needs
+
+read-requires : tie.Need-read-requires Inv-loop μ-loop
+read-requires c κs = (c .before .before .before .pre, omega (arith, c .before .reads .ensures))
+
+returns-2 : tie.Need-returns-2 Inv-loop μ-loop
+returns-2 c =
+    let r = c .before .before in
+    too-high 6 7 _ _ _ _ _ (last-is r) (omega (arith, r .before .before .reads .ensures)) (c .if2 .taken)
+
+loop-holds : tie.Need-loop-holds Inv-loop μ-loop
+loop-holds c = entering-begins 6 7 _ _ _
+
+read-requires-2 : tie.Need-read-requires-2 Inv-loop μ-loop
+read-requires-2 c κs = (c .before .before .before .before .before .before .before .before .pre, within c)
+
+cast-if3 : tie.Need-cast-if3 Inv-loop μ-loop
+cast-if3 c = search needs
+
+returns-3 : tie.Need-returns-3 Inv-loop μ-loop
+returns-3 c =
+    let r = c .before .before .before in
+    falls 6 7 _ _ _ _ _ (key-is r) (within (r .before)) _ (r .before .before .loop .inv) (c .if3 .taken)
+
+version-wrong-requires : tie.Need-version-wrong-requires Inv-loop μ-loop
+version-wrong-requires c κs = search needs
+
+returns-4 : tie.Need-returns-4 Inv-loop μ-loop
+returns-4 c =
+    let v = c .before in
+    let r = v .before .before .before .before in
+    is-wrong 6 7 _ _ _ _ _ (key-is r) (within (r .before)) (sym (test-is v) ∙ c .if4 .taken)
+
+cast-floor : tie.Need-cast-floor Inv-loop μ-loop
+cast-floor c = search needs
+
+add-floor : tie.Need-add-floor Inv-loop μ-loop
+add-floor c = search needs
+
+add-i : tie.Need-add-i Inv-loop μ-loop
+add-i c = search needs
+
+loop-less : tie.Need-loop-less Inv-loop μ-loop
+loop-less c = search needs
+
+loop-again : tie.Need-loop-again Inv-loop μ-loop
+loop-again c =
+    let v = c .before .before in
+    let r = v .before .before .before .before in
+    entering-turns 6 7 _ _ _ _ _ (key-is r) (within (r .before)) _ (r .before .before .loop .inv) (v .before .if3 .left) (sym (test-is v) ∙ c .before .if4 .left)
+
+returns-5 : tie.Need-returns-5 Inv-loop μ-loop
+returns-5 c =
+    let e = c .before .before in
+    entering-ends 6 7 _ _ _ _ _ _ (c .before .loop .inv) (omega (arith, c .loop-test .left, e .before .before .before .before .reads .ensures)) (last-is (e .before .before)) (e .if2 .left)
+
+pub reads-good-spec : {M : Type 1} → statement M
+reads-good-spec =
+    tie.close
+    (tie.spec
+    Inv-loop
+    μ-loop
+    reads-requires
+    returns
+    sub-read
+    read-requires
+    returns-2
+    loop-holds
+    read-requires-2
+    cast-if3
+    returns-3
+    version-wrong-requires
+    returns-4
+    cast-floor
+    add-floor
+    add-i
+    loop-less
+    loop-again
+    returns-5)

@@ -7,7 +7,8 @@ use mathlib.Core.Path.{_≡_, refl, ap}
 use lib.ListN.{length, drop, replicate}
 use lib.Dec.{T, T-not, not-T, eqb, eqb-refl, eqb→eq}
 use borrow.Author.Tests.{eq-eqb}
-use Rattle.lists.specs.Members.{_∈_, upto, distinct}
+use Rattle.lists.specs.Members.{_∈_, distinct}
+use Rattle.lists.specs.Tables.{upto}
 use Rattle.lists.proofs.Tests.{and-left, of-true}
 use Rattle.lists.proofs.Membership.{those-in, those-out, perm-in, perm-distinct, distinct-those}
 use Rattle.lists.proofs.Membership.{upto-below, upto-all, upto-distinct, upto-length}
@@ -19,9 +20,9 @@ use Rattle.orders.proofs.Arranged.{no-longer, order-acyclic}
 use Rattle.ledger.specs.Tx.{Tx}
 use Rattle.ledger.specs.Page.{pageAt}
 use Rattle.ledger.specs.State.{State, keys, versions}
-use Rattle.ledger.specs.Gate.{pages, txAt, gateFault}
+use Rattle.ledger.specs.Gate.{pages, txAt}
 use Rattle.ledger.specs.Commit.{passed, commitBatch}
-use Rattle.ledger.proofs.Gated.{Through, gate-open}
+use Rattle.ledger.proofs.Gated.{Through, gate-open, gateFault}
 use Rattle.ledger.proofs.Commits.{commit-open}
 use Rattle.ledger.proofs.Rising.{write-keys}
 use Rattle.planning.specs.Plan.{current, before, gathered}

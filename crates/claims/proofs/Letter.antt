@@ -8,7 +8,7 @@ use lib.ListN.{length, take, replicate}
 use lib.Dec.{T}
 use Rattle.lists.specs.Tables.{flat, tab}
 use Rattle.lists.specs.Search.{seek, firstIn}
-use Rattle.lists.specs.Members.{all, upto}
+use Rattle.lists.specs.Members.{all}
 use Rattle.refusals.specs.Outcome.{gives}
 use Rattle.refusals.specs.Fault.{clear, first, rowsFrom}
 use Rattle.octets.specs.Bytes.{field, weighed, le}
@@ -91,7 +91,7 @@ sheets :
     × Sheet (plainCorrection 4 ∷ closing 9 ∷ []) 2 (0 ∷ 0 ∷ []) (1 ∷ 0 ∷ []) (by 1 68400) (by 0 684000)
     × Sheet (plainCorrection 9 ∷ closing 4 ∷ []) 2 (0 ∷ 0 ∷ []) (1 ∷ 0 ∷ []) (by 1 68400) (by 0 684000)
 unfolding batchOf firstIn seek first rowsFrom countRows entryRows floorOf pageOf bodyOf weighed le flat tab pageTx field entry
-    store passes write run joined cyclic admit lowestTicket without arrange byTicket free schedule upto keysRead keysWritten
+    store passes write run joined cyclic admit lowestTicket without arrange byTicket free schedule keysRead keysWritten
     reader before sequence kept verdict order plans
 sheets = (
   record { sound = tt; clean = refl; room = refl; count = refl; verdicts-are = refl; order-is = refl; weight-is = refl; sum-is = refl },

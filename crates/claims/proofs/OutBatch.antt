@@ -17,10 +17,10 @@ use Rattle.refusals.proofs.Rows.{one-clear, each-clear, test-clear}
 use Rattle.lists.specs.Tables.{tab}
 use Rattle.ledger.specs.Page.{pageTx, pageFault, pageAt}
 use Rattle.ledger.specs.State.{State, keys}
-use Rattle.ledger.specs.Gate.{pages, txAt, txs, rowsAt, again, beyond, lentRow, pagesRows, gateFault}
+use Rattle.ledger.specs.Gate.{pages, txAt, txs, rowsAt, again, beyond, lentRow, pagesRows}
 use Rattle.ledger.specs.Commit.{commitRows}
 use Rattle.lists.proofs.Tables.{tab-same, tab-list}
-use Rattle.ledger.proofs.Gated.{page-long, good-at, pages-rest, front-clear, front-good, gate-pages, open-front, not-wrong, Through}
+use Rattle.ledger.proofs.Gated.{page-long, good-at, pages-rest, front-clear, front-good, gate-pages, open-front, not-wrong, Through, gateFault}
 use Rattle.planning.specs.Plan.{gathered}
 use Rattle.planner.proofs.Filling.{gathered-long}
 

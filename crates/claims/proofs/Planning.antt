@@ -6,7 +6,8 @@ use mathlib.Core.List.{List, [], _∷_, List·Memᴰ·not-nil, List·Permᴰ, Pe
 use mathlib.Core.Logic.{⊎-elim, _↔_}
 use mathlib.Core.Path.{_≡_, refl}
 use lib.Dec.{T, T-not, eqb}
-use Rattle.lists.specs.Members.{_∈_, any, those, upto, distinct}
+use Rattle.lists.specs.Members.{_∈_, any, those, distinct}
+use Rattle.lists.specs.Tables.{upto}
 use Rattle.lists.proofs.Tests.{is-false, by-test}
 use Rattle.lists.proofs.Membership.{those-in, those-out, perm-in, one-of, perm-distinct, distinct-those}
 use Rattle.lists.proofs.Membership.{upto-below, upto-all, upto-distinct}

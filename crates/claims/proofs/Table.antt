@@ -20,7 +20,6 @@ use Rattle.ledger.specs.Commit.{passes, write, afterPage, commit as commitAll, 
 use Rattle.orders.specs.Chain.{joined, cyclic}
 use Rattle.orders.specs.Admission.{admit}
 use Rattle.orders.specs.Arrange.{lowest as lowestTicket, without, arrange, byTicket, free, schedule}
-use Rattle.lists.specs.Members.{upto}
 use Rattle.planning.specs.Plan.{before, sequence, kept, verdict, order, gathered, plans, planBatch}
 use Rattle.lists.specs.Ascii.{ascii}
 use Rattle.claims.specs.Cases.{text, page, plan, commit, written, Holds, Hold, table, number, batchOf}
@@ -30,7 +29,7 @@ use Rattle.claims.specs.Cases.{withCounts, ticket7, bytes7, crossing, re
 pub cases : Hold table
 unfolding first rowsFrom moved ascii readText readRows form laid firstIn seek magnitude follow figure writePage writeRows countRows entryRows valueTx floorOf pageOf bodyOf weighed le flat tab readPage checkPage pageRows wholeRows headRows pageTx field padded
     batchOf gateRows frontRows stateRows pagesRows txs entry store passes write afterPage commitAll verdicts passed commitBatch
-    joined cyclic admit lowestTicket without arrange byTicket free schedule upto keysRead keysWritten readerOf before sequence kept verdict order gathered plans planBatch
+    joined cyclic admit lowestTicket without arrange byTicket free schedule keysRead keysWritten readerOf before sequence kept verdict order gathered plans planBatch
 cases = (
   refl,
   (

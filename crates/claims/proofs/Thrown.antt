@@ -11,7 +11,8 @@ use mathlib.Core.Path.{_≡_, refl, sym, ap, subst, _∙_}
 use lib.ListN.{take}
 use lib.Dec.{T, T-not, not-T, eqb, leb, ltb, ltb→lt, leb→le}
 use borrow.Author.Tests.{le-leb, ltb-false}
-use Rattle.lists.specs.Members.{_∈_, any, all, those, upto}
+use Rattle.lists.specs.Members.{_∈_, any, all, those}
+use Rattle.lists.specs.Tables.{upto}
 use Rattle.lists.proofs.Tests.{by-test, and-left, and-right, of-true, is-false, decide}
 use Rattle.lists.proofs.Membership.{those-in, those-out, all-out, perm-in, one-of, upto-all}
 use Rattle.refusals.specs.Outcome.{gives}

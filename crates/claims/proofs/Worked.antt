@@ -11,11 +11,11 @@ use Rattle.refusals.specs.Outcome.{gives}
 use Rattle.refusals.specs.Fault.{clear, rowsFrom}
 use Rattle.refusals.specs.Fault.{first as firstOf}
 use Rattle.lists.specs.Search.{seek, firstIn}
-use Rattle.lists.specs.Members.{_∈_, all, upto}
+use Rattle.lists.specs.Members.{_∈_, all}
+use Rattle.lists.specs.Tables.{flat, tab}
 use Rattle.lists.specs.Ascii.{ascii}
 use Rattle.lists.proofs.Membership.{all-out}
 use Rattle.tonnage.specs.Text.{digits, widthIn, width, textOf}
-use Rattle.lists.specs.Tables.{flat, tab}
 use Rattle.octets.specs.Bytes.{field, weighed, le}
 use Rattle.ledger.specs.Tx.{Tx, keysRead, keysWritten, reader, writer, floorOf}
 use Rattle.ledger.specs.Page.{countRows, entryRows, pageTx, bodyOf, pageOf}
@@ -115,7 +115,7 @@ from-sheet xs k text h l s = shown-few (batchOf xs) k 10 1014 refl (open-gate xs
 
 sheets : Sheet five 3 nineLines × Sheet correction 2 letterLines
 unfolding start batchOf firstIn seek firstOf rowsFrom countRows entryRows floorOf pageOf bodyOf weighed le flat tab pageTx field entry store passes write run
-    joined cyclic admit lowestTicket without arrange byTicket free schedule upto keysRead keysWritten reader before sequence kept verdict order plans
+    joined cyclic admit lowestTicket without arrange byTicket free schedule keysRead keysWritten reader before sequence kept verdict order plans
     header placeText pageLine stateLine keyLine digits widthIn width textOf ascii
 sheets = (
   record { sound = tt; clean = refl; count = refl; below = tt; reads = refl },

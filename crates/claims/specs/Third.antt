@@ -6,7 +6,8 @@ use mathlib.Core.Logic.{_↔_}
 use mathlib.Core.Path.{_≡_}
 use lib.ListN.{length, getD, take, drop, replicate}
 use lib.Dec.{T, eqb}
-use Rattle.lists.specs.Members.{_∈_, those, upto}
+use Rattle.lists.specs.Members.{_∈_, those}
+use Rattle.lists.specs.Tables.{upto}
 use Rattle.refusals.specs.Outcome.{gives}
 use Rattle.orders.specs.Chain.{Cycle}
 use Rattle.orders.specs.Arrange.{Order}

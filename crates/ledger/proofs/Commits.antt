@@ -24,13 +24,14 @@ use Rattle.ledger.specs.declared.Stamp.{Stamp}
 use Rattle.lists.specs.Tables.{tab}
 use Rattle.ledger.specs.Tx.{Tx, noRead, readOf, writeOf, noWrite, wrongKind}
 use Rattle.ledger.specs.State.{State, versions, store}
-use Rattle.ledger.specs.Gate.{pages, txAt, txs, txsIn, lentRow, gateFault}
+use Rattle.ledger.specs.Gate.{pages, txAt, txs, txsIn, lentRow}
 use Rattle.ledger.specs.Commit.{names, passes, stamp, left, write, afterPage, checkVerdict, commit, verdicts, passed, commitBatch}
 use Rattle.ledger.specs.Inner.{Level, Commitment}
 use Rattle.lists.proofs.Tables.{length-tab, tab-same}
 use Rattle.ledger.specs.Value.{isZero}
 use Rattle.ledger.proofs.Faults.{and-both}
 use Rattle.ledger.proofs.Zero.{zero-is}
+use Rattle.ledger.proofs.Gated.{gateFault}
 
 -- ---- one more at the end
 

@@ -58,8 +58,8 @@ module _ (a b : ℕ) (key : ℕ → ℕ) (wrong : ℕ → Bool) (n : ℕ) where
       pub falls : k < floor → false ≡ isClear (first twoRows)
       falls h = first-there (some-at (outOfTurn key) n i less (or-first (ltb (key i) (floorOf key i)) _ (lt-ltb (key i) (floorOf key i) (omega (arith, e .floor-is)))))
 
-      pub entering-turns : floor ≤ k → wrong i ≡ false → Entering (k + 1) (i + 1)
-      entering-turns h w = record {
+      pub entering-turns : (next : ℕ) → floor ≤ k → wrong i ≡ false → next ≡ k + 1 → Entering next (i + 1)
+      entering-turns next h w up = record {
         in-range = omega arith;
         floor-is = omega (arith, floor-next key i);
         floors = λ j l. let o : j ≤ i = omega arith in ⊎-elim {C = floorOf key j ≤ key j} (λ q. rw q (omega (arith, e .floor-is))) (e .floors j) (eq-or-lt-of-le o);

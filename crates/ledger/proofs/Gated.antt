@@ -8,13 +8,16 @@ use lib.ListN.{length, length-take, length-drop}
 use lib.Dec.{eqb, ltb, leb}
 use borrow.Author.Tests.{ltb-true, ltb-false, leb-true, eqb-true, eqb-false, not-false, lt-ltb, le-ltb, eq-eqb, ne-eqb}
 use Rattle.lists.proofs.Searches.{missed}
-use Rattle.refusals.specs.Fault.{clear, fault, Row, row, first, inTurn, eachRow, movedFault}
-use Rattle.refusals.proofs.Rows.{row-there, row-passed, row-none, append-clear, append-fault, append-none, each-none, one-clear, test-none, first-moved, moved-none}
+use Rattle.refusals.specs.Fault.{Fault, clear, fault, Row, row, first, inTurn, eachRow}
+use Rattle.refusals.proofs.Rows.{row-there, row-passed, row-none, append-clear, append-fault, append-none, each-none, one-clear, test-none, first-moved, moved-none, movedFault}
 use Rattle.ledger.specs.Page.{wholeRows, pageFault, pageAt}
 use Rattle.ledger.specs.State.{State, keys, entry, wrongEntry, wrongLengths, stateRows}
-use Rattle.ledger.specs.Gate.{pages, txAt, again, beyond, rowsAt, pagesRows, bytesRow, frontRows, gateRows, gateFault}
+use Rattle.ledger.specs.Gate.{pages, txAt, again, beyond, rowsAt, pagesRows, bytesRow, frontRows, gateRows}
 use Rattle.ledger.specs.Inner.{Level, Ready, Batch}
 use Rattle.ledger.proofs.Faults.{or-none, and-both, whole-good, whole-bad, good-whole}
+
+abbrev pub gateFault : List Row → List ℕ → State → ℕ → Fault
+gateFault own batch s n = first (gateRows own batch s n)
 
 -- ---- the rows of a page of a batch
 

@@ -6,7 +6,7 @@ use lib.ListN.{length, getD}
 use lib.Dec.{eqb, ltb}
 use Rattle.lists.specs.Search.{someIn}
 use Rattle.lists.specs.Members.{any}
-use Rattle.refusals.specs.Fault.{Fault, Row, row, first, inTurn, eachRow, moved}
+use Rattle.refusals.specs.Fault.{Row, row, inTurn, eachRow, moved}
 use Rattle.lists.specs.Tables.{tab}
 use Rattle.ledger.specs.Tx.{Tx}
 use Rattle.ledger.specs.Page.{pageTx, wholeRows, pageAt}
@@ -63,6 +63,3 @@ pagesRows batch k =
 -- what a service asks of its own between 13 and the pages is told
 unfoldable pub gateRows : List Row → List ℕ → State → ℕ → List Row
 gateRows own batch s n = frontRows batch s n ++ (own ++ pagesRows batch (keys s))
-
-abbrev pub gateFault : List Row → List ℕ → State → ℕ → Fault
-gateFault own batch s n = first (gateRows own batch s n)

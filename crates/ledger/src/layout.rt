@@ -47,6 +47,8 @@ pub const MOST_PAGES: usize = LAST_PLACE as usize + 1;
 pub const MOST_BYTES: usize = MOST_PAGES * PAGE;
 
 // "Absent is block 0, place 65535".
+pub const NO_BLOCK: u32 = 0;
+
 pub const NO_PLACE: u16 = 65535;
 
 // "then: w writes": where the writes start, behind `r` reads.

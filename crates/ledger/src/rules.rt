@@ -21,13 +21,17 @@ pub fn key_wrong(floor: u32, key: u16) -> bool
 }
 
 // A version that is neither absent nor at a place of 0 to 63.
+// Absent is tested field by field: `same` would be worked out for ordinary places too.
 pub fn version_wrong(v: Version) -> bool
     ensures { λ r. ⌜ r ≡ wrongVersion v ⌝ }
 {
     if v.ordinary() {
         return false;
     }
-    !v.same(Version::ABSENT)
+    if v.block != layout::NO_BLOCK {
+        return true;
+    }
+    v.place != layout::NO_PLACE
 }
 
 // A kind that is neither put nor delete, or a delete with a value.

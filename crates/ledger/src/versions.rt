@@ -7,7 +7,7 @@ ghost use Rattle.ledger.specs.Version.{absent, at, same, ordinary};
 impl Version {
     // "Absent is block 0, place 65535."
     pub const ABSENT: Version = Version {
-        block: 0,
+        block: layout::NO_BLOCK,
         place: layout::NO_PLACE,
     };
 

@@ -6,7 +6,7 @@ use report::program::Input;
 ghost use Prim.Native.Nat.{_≤_};
 ghost use mathlib.Core.Path.{_≡_};
 ghost use lib.ListN.{length};
-ghost use Rattle.report.specs.Listing.{filled};
+ghost use Rattle.lists.specs.Tables.{filled};
 ghost use Rattle.report.specs.Program.{Within, start, told};
 
 // Says on standard error why nothing is listed: a program has no exit status of its own.

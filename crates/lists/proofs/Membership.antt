@@ -9,7 +9,8 @@ use native.Mathlib.Omega.{arith}
 use lib.ListN.{length, getD, take, length-append}
 use lib.Seq.{take-suc}
 use lib.Dec.{T, T-not, eqb, eqb-refl, eqb→eq}
-use Rattle.lists.specs.Members.{_∈_, any, all, those, distinct, upto}
+use Rattle.lists.specs.Members.{_∈_, any, all, those, distinct}
+use Rattle.lists.specs.Tables.{upto, tab}
 use Rattle.lists.proofs.Tests.{both, and-left, and-right, or-left, or-right, or-cases, or-false, by-test, decide, clash, eqb-sym, differ, unequal}
 
 module _ {A : Type 0} where
@@ -284,7 +285,7 @@ distinct-last (i ∷ is) m d f =
 -- ---- the first numbers
 
 pub upto-below : (m : ℕ) {i : ℕ} → i ∈ upto m → i < m
-unfolding upto
+unfolding tab
 upto-below zero h = absurd (List·Memᴰ·not-nil h)
 upto-below (suc m) h =
     ⊎-elim
@@ -293,7 +294,7 @@ upto-below (suc m) h =
     (List·Memᴰ·append-cases (upto m) h)
 
 pub upto-all : (m i : ℕ) → i < m → i ∈ upto m
-unfolding upto
+unfolding tab
 upto-all zero i h = absurd (omega arith)
 upto-all (suc m) i h =
     ⊎-elim
@@ -302,20 +303,20 @@ upto-all (suc m) i h =
     (decide (eqb i m))
 
 pub upto-distinct : (m : ℕ) → T (distinct (upto m))
-unfolding upto distinct
+unfolding tab distinct
 upto-distinct zero = tt
 upto-distinct (suc m) = distinct-last (upto m) m (upto-distinct m) (λ j k. unequal j m (λ e. absurd (omega (arith, upto-below m k))))
 
 pub upto-length : (m : ℕ) → length (upto m) ≡ m
-unfolding upto
+unfolding tab
 upto-length zero = refl
 upto-length (suc m) = simp length-append (let e = upto-length m in omega arith)
 
 -- those of the first numbers, with one number more
 pub those-upto-in : (p : ℕ → Bool) (m : ℕ) → p m ≡ true → those p (upto (m + 1)) ≡ those p (upto m) ++ (m ∷ [])
-unfolding upto
+unfolding tab
 those-upto-in p m e = rw (add-one, those-append p (upto m) (m ∷ []), e)
 
 pub those-upto-out : (p : ℕ → Bool) (m : ℕ) → p m ≡ false → those p (upto (m + 1)) ≡ those p (upto m)
-unfolding upto
+unfolding tab
 those-upto-out p m e = rw (add-one, those-append p (upto m) (m ∷ []), e, append-nil)

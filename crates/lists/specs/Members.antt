@@ -1,8 +1,7 @@
--- Members of a list: tests over them, those that pass a test, lists without repetition, the first numbers. Assumes nothing.
+-- Members of a list: tests over them, those that pass a test, lists without repetition. Assumes nothing.
 use mathlib.Core.Bool.{Bool, true, false, not, _&&_, _||_, cond}
-use mathlib.Core.List.{List, [], _∷_, _++_, List·Memᴰ}
-use mathlib.Core.Logic.{_↔_}
-use Prim.Native.Nat.{ℕ, zero, suc}
+use mathlib.Core.List.{List, [], _∷_, List·Memᴰ}
+use Prim.Native.Nat.{ℕ}
 use lib.Dec.{eqb}
 
 module _ {A : Type 0} where
@@ -26,16 +25,7 @@ module _ {A : Type 0} where
   those p [] = []
   those p (x ∷ xs) = cond (p x) (x ∷ those p xs) (those p xs)
 
-  -- xs and ys have the same members, however listed
-  abbrev pub Alike : List A → List A → Type 0
-  Alike xs ys = (x : A) → (x ∈ xs) ↔ (x ∈ ys)
-
 -- no number stands in the list twice
 unfoldable pub distinct : List ℕ → Bool
 distinct [] = true
 distinct (i ∷ is) = all (λ j. not (eqb i j)) is && distinct is
-
--- the numbers below m, rising
-unfoldable pub upto : ℕ → List ℕ
-upto zero = []
-upto (suc m) = upto m ++ (m ∷ [])

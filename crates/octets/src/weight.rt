@@ -17,7 +17,7 @@ const TAIL: usize = ROWS * COLUMNS;
 // The rows that are weighed where a page uses no byte behind them: of a small page, and of a page that is half full.
 const SMALL: usize = 1;
 
-const HALF: usize = 5;
+const HALF: usize = 6;
 
 // The bytes that are summed: 0 to 507.
 pub const SUMMED: usize = 508;

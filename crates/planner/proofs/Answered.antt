@@ -7,7 +7,8 @@ use native.Mathlib.Omega.{arith}
 use borrow.Author.Tests.{lt-ltb}
 use lib.Dec.{T, eqb, ltb}
 use lib.ListN.{length, take, drop}
-use Rattle.lists.specs.Members.{any, those, upto, distinct}
+use Rattle.lists.specs.Members.{any, those, distinct}
+use Rattle.lists.specs.Tables.{upto, tab}
 use Rattle.lists.proofs.Membership.{those-same, distinct-those, perm-distinct, upto-below, upto-distinct}
 use Rattle.refusals.specs.Outcome.{gives}
 use Rattle.orders.specs.Walk.{Lists}
@@ -15,7 +16,6 @@ use Rattle.orders.specs.Admission.{admit}
 use Rattle.orders.specs.Arrange.{byTicket, schedule}
 use Rattle.orders.proofs.Arranged.{by-ticket-perm}
 use Rattle.sets.specs.Set.{member, members}
-use Rattle.lists.specs.Tables.{tab}
 use Rattle.ledger.specs.declared.Version.{Version}
 use Rattle.ledger.specs.Gate.{pages, txAt}
 use Rattle.ledger.specs.Inner.{Batch}

@@ -8,7 +8,8 @@ use native.Mathlib.Omega.{arith}
 use lib.Dec.{T, eqb, ltb, nltb→le}
 use lib.ListN.{length, getD, take, drop, length-take, length-map, List·getD-append}
 use lib.Seq.{take-suc, getD-take, take-at}
-use Rattle.lists.specs.Members.{_∈_, any, all, those, upto, distinct}
+use Rattle.lists.specs.Members.{_∈_, any, all, those, distinct}
+use Rattle.lists.specs.Tables.{upto, tab}
 use Rattle.lists.proofs.Tests.{both, and-left, and-right, of-true, no-true, same-test}
 use Rattle.lists.proofs.Membership.{any-in, any-out, all-in, all-out, getD-in, those-out, those-shorter, map-out}
 use Rattle.lists.proofs.Membership.{perm-in, perm-length, distinct-at, perm-distinct, distinct-those}
@@ -29,7 +30,7 @@ use Rattle.planner.proofs.Candidates.{holds, no-cycle}
 -- ---- lists by index
 
 map-nth : (xs : List ℕ) (c : ℕ) → c ≤ length xs → map (nth xs) (upto c) ≡ take c xs
-unfolding upto
+unfolding tab
 map-nth xs zero h = refl
 map-nth xs (suc c) h = map-append (nth xs) (upto c) (c ∷ []) ∙ ap (λ l. l ++ (nth xs c ∷ [])) (map-nth xs c (omega arith)) ∙ sym (take-suc xs c 0 (omega arith))
 

@@ -9,7 +9,7 @@ use lib.Dec.{eqb}
 use lib.ListN.{length, take, drop, set, length-set, take-append-drop}
 use lib.Seq.{take-suc-set, drop-set-lt, drop-drop}
 use Rattle.lists.proofs.Tests.{clash, is-true, of-true, no-true}
-use Rattle.lists.specs.Members.{upto}
+use Rattle.lists.specs.Tables.{upto}
 use Rattle.lists.proofs.Membership.{those-none}
 use Rattle.orders.specs.Chain.{cyclic}
 use Rattle.orders.specs.Arrange.{without, arrange, schedule}

@@ -5,7 +5,7 @@ ghost use mathlib.Core.Bool.{true};
 ghost use mathlib.Core.Logic.{_↔_};
 ghost use mathlib.Core.List.{[]};
 ghost use Prim.Native.Nat.{_≤_, _<_};
-ghost use Rattle.lists.specs.Members.{upto};
+ghost use Rattle.lists.specs.Tables.{upto};
 ghost use Rattle.orders.specs.Admission.{admit};
 ghost use Rattle.orders.specs.Walk.{Lists, Way};
 ghost use Rattle.sets.specs.Set.{member};

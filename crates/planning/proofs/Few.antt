@@ -5,7 +5,8 @@ use mathlib.Core.Bool.{Bool, true}
 use mathlib.Core.List.{List, [], _∷_}
 use native.Mathlib.Omega.{arith}
 use lib.ListN.{length}
-use Rattle.lists.specs.Members.{those, upto}
+use Rattle.lists.specs.Members.{those}
+use Rattle.lists.specs.Tables.{upto}
 use Rattle.lists.proofs.Membership.{those-shorter, upto-length}
 use Rattle.refusals.specs.Outcome.{gives}
 use Rattle.ledger.specs.Tx.{Tx}

@@ -11,9 +11,10 @@ use Rattle.refusals.specs.Outcome.{Outcome, gives, refuses}
 use Rattle.refusals.specs.Fault.{clear, fault, Row, first}
 use Rattle.refusals.proofs.Rows.{judged-gives, row-none}
 use Rattle.ledger.specs.State.{State, versions}
-use Rattle.ledger.specs.Gate.{pages, txAt, lentRow, gateFault}
+use Rattle.ledger.specs.Gate.{pages, txAt, lentRow}
 use Rattle.ledger.proofs.Faults.{or-none}
 use Rattle.planning.specs.Plan.{sequence, order, plans, short, planBatch}
+use Rattle.ledger.proofs.Gated.{gateFault}
 
 module _ (batch : List ℕ) (s : State) (n : ℕ) (vs os out : List ℕ) where
   -- the rows of plan's own

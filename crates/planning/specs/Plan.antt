@@ -4,13 +4,13 @@ use mathlib.Core.Bool.{Bool, not, _&&_, _||_, cond}
 use mathlib.Core.List.{List, [], _∷_, _++_}
 use lib.ListN.{length, drop}
 use lib.Dec.{eqb, ltb}
-use Rattle.lists.specs.Members.{any, those, upto}
+use Rattle.lists.specs.Members.{any, those}
+use Rattle.lists.specs.Tables.{upto, filled, tab}
 use Rattle.refusals.specs.declared.Answer.{Answer}
 use Rattle.refusals.specs.Outcome.{Outcome, gives, outcome}
 use Rattle.refusals.specs.Fault.{Row, first, judged, after}
 use Rattle.orders.specs.Admission.{admit}
 use Rattle.orders.specs.Arrange.{byTicket, schedule}
-use Rattle.lists.specs.Tables.{tab}
 use Rattle.ledger.specs.declared.Version.{Version}
 use Rattle.ledger.specs.Tx.{Tx, keysWritten, reader}
 use Rattle.ledger.specs.Page.{pageAt}
@@ -74,7 +74,7 @@ plans batch held seq vs os out =
     record {
       answer = gives (length o);
       verdicts = tab (pages batch) (verdict held (txAt batch) seq) ++ drop (pages batch) vs;
-      order = o ++ drop (length o) os;
+      order = filled o os;
       out = gathered batch o ++ drop (512 * length o) out;
     }
 

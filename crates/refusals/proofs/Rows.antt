@@ -12,7 +12,11 @@ use Rattle.lists.specs.Search.{firstIn}
 use Rattle.lists.proofs.Tests.{both, and-left, and-right}
 use Rattle.lists.proofs.Searches.{none, holds, missed, before}
 use Rattle.refusals.specs.Outcome.{Outcome, gives, refuses}
-use Rattle.refusals.specs.Fault.{Fault, clear, fault, isClear, Row, row, first, Given, here, later, rowsFrom, inTurn, eachRow, moved, movedFault, judged, after}
+use Rattle.refusals.specs.Fault.{Fault, clear, fault, isClear, Row, row, first, Given, here, later, rowsFrom, inTurn, eachRow, moved, judged, after}
+
+abbrev pub movedFault : (ℕ → ℕ) → Fault → Fault
+movedFault f clear = clear
+movedFault f (fault n p) = fault n (f p)
 
 -- ---- faults told apart
 

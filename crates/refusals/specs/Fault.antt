@@ -56,10 +56,6 @@ unfoldable pub moved : (ℕ → ℕ) → List Row → List Row
 moved f [] = []
 moved f (r ∷ rs) = row (r .number) (f (r .place)) (r .case) ∷ moved f rs
 
-abbrev pub movedFault : (ℕ → ℕ) → Fault → Fault
-movedFault f clear = clear
-movedFault f (fault n p) = fault n (f p)
-
 -- ---- answers
 
 -- what is given where there is no fault

@@ -8,10 +8,9 @@ use native.Mathlib.Numerals.{add-one}
 use lib.ListN.{length, set, getD, take, length-append}
 use lib.Seq.{sets-eq, take-suc, take-length}
 use Rattle.lists.proofs.Stores.{sets-append}
-use Rattle.lists.specs.Tables.{flat}
+use Rattle.lists.specs.Tables.{flat, filled}
 use Rattle.lists.proofs.Tables.{flat-next}
 use Rattle.report.specs.Put.{Put}
-use Rattle.report.specs.Listing.{filled}
 
 -- nothing is put
 pub none : (l : List ℕ) (at : ℕ) → Put l at [] l at

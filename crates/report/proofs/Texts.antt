@@ -12,7 +12,8 @@ use Rattle.ledger.specs.declared.Entry.{Entry}
 use Rattle.ledger.specs.State.{State, entry, isGone, wrongLengths}
 use Rattle.ledger.specs.Gate.{pages}
 use Rattle.report.specs.Put.{Put}
-use Rattle.report.specs.Listing.{filled, stateLine, keyLine, listing, together, listed, refusal, refused}
+use Rattle.lists.specs.Tables.{filled}
+use Rattle.report.specs.Listing.{stateLine, keyLine, listing, together, listed, refusal, refused}
 use Rattle.report.proofs.Puts.{fills, fills-to}
 
 -- ---- the line of a key

@@ -11,7 +11,8 @@ use Rattle.refusals.specs.Outcome.{gives, refuses}
 use Rattle.ledger.specs.State.{State}
 use Rattle.ledger.specs.Commit.{Commits, committed, commitBatch}
 use Rattle.planning.specs.Plan.{Plans, planned}
-use Rattle.report.specs.Listing.{filled, listed, refused}
+use Rattle.lists.specs.Tables.{filled}
+use Rattle.report.specs.Listing.{listed, refused}
 use Rattle.report.specs.Program.{Within, startNumber, plan, stateAfter, settled, shown, told, booked}
 use Rattle.report.specs.declared.program.Input.{Input}
 use Rattle.report.specs.declared.program.Input.the-variants.{Bytes, TooLong, Unread}

@@ -2,7 +2,7 @@
 use Prim.Native.Nat.{ℕ}
 use mathlib.Core.Bool.{Bool, not, _&&_, cond}
 use mathlib.Core.List.{List, [], _∷_, _++_}
-use lib.ListN.{length, getD, drop}
+use lib.ListN.{length, getD}
 use lib.Dec.{eqb, leb, ltb}
 use Rattle.lists.specs.Search.{firstIn}
 use Rattle.lists.specs.Ascii.{ascii}
@@ -56,10 +56,6 @@ listing n batch verdicts order k s =
 -- "On a refusal the only line is `refused`, its number and its place, blanks between."
 unfoldable pub refusal : ℕ → ℕ → List ℕ
 refusal n p = ascii "refused " ++ (decimal n ++ (ascii " " ++ (decimal p ++ ascii "\n")))
-
--- what is filled into a lent buffer: the text in front, the bytes after it as lent
-abbrev pub filled : List ℕ → List ℕ → List ℕ
-filled text out = text ++ drop (length text) out
 
 -- the lent lists go together, and the buffer has room for any listing of them
 abbrev pub together : List ℕ → List ℕ → List ℕ → List ℕ → ℕ → State → Bool

@@ -8,7 +8,8 @@ use ledger::state;
 ghost use mathlib.Core.Path.{_≡_};
 ghost use lib.ListN.{length};
 ghost use Rattle.ledger.specs.State.{stateOf};
-ghost use Rattle.report.specs.Listing.{listed, refused, filled};
+ghost use Rattle.lists.specs.Tables.{filled};
+ghost use Rattle.report.specs.Listing.{listed, refused};
 
 // The bytes that the line of a refusal fits into, and those that any listing does.
 const REFUSAL_ROOM: usize = 64;

@@ -4,7 +4,7 @@ use refusals::Answer;
 ghost use Prim.Native.Nat.{_≤_};
 ghost use mathlib.Core.Path.{_≡_};
 ghost use lib.ListN.{length};
-ghost use Rattle.report.specs.Listing.{filled};
+ghost use Rattle.lists.specs.Tables.{filled};
 ghost use Rattle.ledger.specs.State.{stateOf};
 ghost use Rattle.report.specs.Program.{Within, settled, shown, told, booked};
 

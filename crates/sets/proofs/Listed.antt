@@ -6,7 +6,8 @@ use mathlib.Core.Logic.{_↔_}
 use Prim.Native.Nat.{ℕ, zero, suc, _+_, _^_, _<_}
 use lib.ListN.{length, length-append}
 use lib.Dec.{eqb}
-use Rattle.lists.specs.Members.{_∈_, those, upto}
+use Rattle.lists.specs.Members.{_∈_, those}
+use Rattle.lists.specs.Tables.{upto, tab}
 use Rattle.lists.proofs.Tests.{both, and-left, and-right, is-true, of-true}
 use Rattle.lists.proofs.Membership.{those-in, those-out, those-append, those-those, those-same, upto-all, upto-below}
 use Rattle.sets.specs.Set.{member, howMany, oneIf, members}
@@ -23,7 +24,7 @@ pub listed : (m n : ℕ) → m < 2 ^ n → (x : ℕ) → (member m x ≡ true) �
 listed m n h x = (λ e. member-listed m n x (within n m x h e) e, λ k. listed-member m n k .1)
 
 pub listed-size : (m n : ℕ) → length (members m n) ≡ howMany m n
-unfolding howMany upto
+unfolding howMany tab
 listed-size m zero = refl
 listed-size m (suc n) = rw (those-append (member m) (upto n) (n ∷ []), length-append) (ap₂ (λ a b. a + b) (listed-size m n) (last (member m n)))
   where

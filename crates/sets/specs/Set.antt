@@ -4,7 +4,8 @@ use mathlib.Core.Bool.{Bool, true, false}
 use mathlib.Core.List.{List}
 use Prim.Native.Nat.{ℕ, _/_, _%_, _^_, _<_, _+_, zero, suc}
 use lib.Dec.{eqb}
-use Rattle.lists.specs.Members.{those, upto}
+use Rattle.lists.specs.Members.{those}
+use Rattle.lists.specs.Tables.{upto}
 
 -- i is in m: digit i of m is 1
 unfoldable pub member : ℕ → ℕ → Bool

@@ -1,8 +1,8 @@
 -- What the two services on tonnage texts answer, for every input. Assumes nothing.
 use mathlib.Core.Bool.{Bool, not}
-use mathlib.Core.List.{List, [], _∷_, _++_}
+use mathlib.Core.List.{List, [], _∷_}
 use Prim.Native.Nat.{ℕ, _^_}
-use lib.ListN.{length, drop}
+use lib.ListN.{length}
 use lib.Dec.{ltb}
 use lib.IntN.{ℤ, pos, negsuc}
 use Rattle.refusals.specs.declared.Answer.{Answer}
@@ -10,6 +10,7 @@ use Rattle.refusals.specs.Outcome.{Outcome, gives, refuses, outcome}
 use Rattle.refusals.specs.Fault.{Row, row, first, judged, after}
 use Rattle.tonnage.specs.declared.Reading.{Reading}
 use Rattle.tonnage.specs.declared.Reading.the-variants.{Kilograms, Unread}
+use Rattle.lists.specs.Tables.{filled}
 use Rattle.tonnage.specs.Text.{form, figure, textOf}
 
 -- a figure of signed 64 bits
@@ -45,7 +46,7 @@ writeRows buffer z = row 20 0 (ltb (length buffer) (length (textOf z))) ∷ []
 unfoldable pub writeText : List ℕ → ℤ → WrittenText
 writeText buffer z =
     let wrong = first (writeRows buffer z) in
-    record { answer = judged wrong (length (textOf z)); text = after wrong (textOf z ++ drop (length (textOf z)) buffer) buffer }
+    record { answer = judged wrong (length (textOf z)); text = after wrong (filled (textOf z) buffer) buffer }
 
 -- the answer of the writer as an outcome, with the buffer as it is at the end
 abbrev pub wrote : Answer → List ℕ → WrittenText

@@ -1,4 +1,5 @@
-// The check of a page, on the bytes where they lie: each search of the entries gives where it stopped.
+// The check of a page, on the bytes where they lie. Only a page that is not good is searched for its first fault:
+// each search of the entries gives where it stopped.
 use crate::PageCheck;
 use crate::layout;
 use crate::page::counts;
@@ -133,8 +134,7 @@ fn exactly(page: &[u8]) -> PageCheck
     if let Finding::Found { refusal } = found {
         return PageCheck::Bad { refusal };
     }
-    // Cut anew, so that it is handed on from registers.
-    let found = entry_fault(layout::page_at(page, 0));
+    let found = entry_fault(page);
     if let Finding::Found { refusal } = found {
         return PageCheck::Bad { refusal };
     }

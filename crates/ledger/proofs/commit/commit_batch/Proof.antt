@@ -1,8 +1,8 @@
 -- `commit_batch`: the stages of the gate in turn, then the pages.
 use Prim.Native.Nat.{ℕ, _<_}
 use Rattle.ledger.proofs.Commits.{own, commit-refused, commit-taken, in-turn-txs}
-use Rattle.ledger.proofs.Gated.{front-whole, gate-front, gate-own, gate-pages, Through, through}
-use Rattle.ledger.specs.Gate.{pages, lentRow, frontRows, pagesRows, gateFault}
+use Rattle.ledger.proofs.Gated.{front-whole, gate-front, gate-own, gate-pages, Through, through, gateFault}
+use Rattle.ledger.specs.Gate.{pages, lentRow, frontRows, pagesRows}
 use Rattle.ledger.specs.State.{State, stateOf, keys}
 use Rattle.refusals.proofs.Rows.{row-there, one-clear}
 use Rattle.refusals.specs.Fault.{Row, clear, first, finding}

@@ -7,7 +7,7 @@ use borrow.Author.Needs.{needs}
 use native.Mathlib.Numerals.{add-one}
 use native.Mathlib.Omega.{arith}
 use borrow.Author.Tests.{not-true, not-false}
-use Rattle.lists.specs.Members.{upto}
+use Rattle.lists.specs.Tables.{upto, tab}
 use Rattle.lists.proofs.Tests.{clash}
 use Rattle.orders.specs.Admission.{admit}
 use Rattle.orders.specs.Walk.{Lists}
@@ -25,7 +25,7 @@ abbrev μ-loop : tie.MeasureT-loop
 μ-loop blockers count kept₀ awaited₀ t₀ kept awaited t = count - t
 
 loop-holds : tie.Need-loop-holds Inv-loop μ-loop
-unfolding upto admit
+unfolding tab admit
 loop-holds c = (omega arith, holds-none _ none, λ j d k e. absurd (clash (sym k ∙ none d)))
 
 closes-cycle-requires : tie.Need-closes-cycle-requires Inv-loop μ-loop
@@ -50,7 +50,7 @@ loop-less : tie.Need-loop-less Inv-loop μ-loop
 loop-less c = omega arith
 
 loop-again : tie.Need-loop-again Inv-loop μ-loop
-unfolding upto
+unfolding tab
 loop-again c =
     let old = c .before .before .before .loop .inv in
     let asked = c .before .closes-cycle .ensures in (

@@ -1,6 +1,6 @@
 -- `plan_batch`: the stages of the gate in turn, then the pages.
-use Rattle.ledger.proofs.Gated.{front-whole, gate-front, gate-own, gate-pages, Through, through}
-use Rattle.ledger.specs.Gate.{pages, lentRow, frontRows, pagesRows, gateFault}
+use Rattle.ledger.proofs.Gated.{front-whole, gate-front, gate-own, gate-pages, Through, through, gateFault}
+use Rattle.ledger.specs.Gate.{pages, lentRow, frontRows, pagesRows}
 use Rattle.ledger.specs.State.{State, stateOf, keys}
 use Rattle.planning.proofs.Opened.{own, plan-refused, plan-open}
 use Rattle.planning.specs.Plan.{short}

@@ -1,8 +1,7 @@
 -- `exactly`: the head, the entries and the spare bytes in turn.
 use mathlib.Core.Path.{_≡_, sym, ap, _∙_}
-use mathlib.Core.List.{List, [], _∷_}
-use Prim.Native.Nat.{ℕ, _≤_}
-use lib.Seq.{take-all}
+use mathlib.Core.List.{[], _∷_}
+use Prim.Native.Nat.{_≤_}
 use native.Mathlib.Omega.{arith}
 use borrow.Author.Needs.{needs}
 use denote.Ref.{now}
@@ -23,34 +22,26 @@ no-head c = sym (c .before .before .head-fault .ensures) ∙ ap finding (c .enum
 counted : (c : tie.After-enum-told) → Counted (now (c .before .before .before .before .args .page))
 counted c = head-counted _ (no-head c)
 
--- the page cut anew is the page
-page-is : (c : tie.After-page-at) → now (c .page-at .result) ≡ now (c .before .before .before .before .before .args .page)
-page-is c = c .page-at .ensures ∙ take-all 512 (now (c .before .before .before .before .before .args .page)) (omega (arith, counted (c .before) .whole))
-
--- what the entries are found to be
-entries : (c : tie.After-entry-fault) → first (entryRows (pageTx (now (c .before .before .before .before .before .before .args .page)))) ≡ finding (c .entry-fault .result)
-entries c = ap (λ (p : List ℕ). first (entryRows (pageTx p))) (sym (page-is (c .before))) ∙ sym (c .entry-fault .ensures)
-
-no-entry : (c : tie.After-enum-told2) → first (entryRows (pageTx (now (c .before .before .before .before .before .before .before .before .args .page)))) ≡ clear
-no-entry c = entries (c .before .before) ∙ ap finding (c .enum-told2 .given .1)
+no-entry : (c : tie.After-enum-told2) → first (entryRows (pageTx (now (c .before .before .before .before .before .before .before .args .page)))) ≡ clear
+no-entry c = sym (c .before .before .entry-fault .ensures) ∙ ap finding (c .enum-told2 .given .1)
 
 -- where the spare bytes begin, and what stands there
-spare : (c : tie.After-spare-at) → c .spare-at .result ≡ spareFrom (now (c .before .before .before .before .before .before .before .before .before .before .before .args .page))
+spare : (c : tie.After-spare-at) → c .spare-at .result ≡ spareFrom (now (c .before .before .before .before .before .before .before .before .before .before .args .page))
 spare c =
-    let p = now (c .before .before .before .before .before .before .before .before .before .before .before .args .page) in
+    let p = now (c .before .before .before .before .before .before .before .before .before .before .args .page) in
     omega (arith, c .spare-at .ensures, c .before .before .reads .ensures, c .before .writes .ensures, count-reads p, count-writes p)
 
 searched : (c : tie.After-any-set)
-    → let p = now (c .before .before .before .before .before .before .before .before .before .before .before .before .args .page) in
+    → let p = now (c .before .before .before .before .before .before .before .before .before .before .before .args .page) in
     c .any-set .result ≡ spareRow p .case
 searched c =
-    let p = now (c .before .before .before .before .before .before .before .before .before .before .before .before .args .page) in
+    let p = now (c .before .before .before .before .before .before .before .before .before .before .before .args .page) in
     c .any-set .ensures ∙ ap (λ n. someIn (set? p) n 508) (spare (c .before))
 
 last : (c : tie.After-any-set)
-    → let p = now (c .before .before .before .before .before .before .before .before .before .before .before .before .args .page) in
+    → let p = now (c .before .before .before .before .before .before .before .before .before .before .before .args .page) in
     pageFault p ≡ first (spareRow p ∷ [])
-last c = let e = c .before .before .before .before in by-spare _ (no-head (e .before .before .before .before)) (no-entry e)
+last c = let e = c .before .before .before .before in by-spare _ (no-head (e .before .before .before)) (no-entry e)
 
 head-fault-requires : tie.Need-head-fault-requires
 head-fault-requires c κs = search needs
@@ -66,11 +57,8 @@ returns c =
 enum-told : tie.Need-enum-told
 enum-told c = search needs
 
-page-at-requires : tie.Need-page-at-requires
-page-at-requires c κs = omega (arith, counted c .whole)
-
 entry-fault-requires : tie.Need-entry-fault-requires
-entry-fault-requires c κs = rw (page-is c) (counted (c .before))
+entry-fault-requires c κs = counted c
 
 enum-known-found-2 : tie.Need-enum-known-found-2
 enum-known-found-2 c = search needs
@@ -79,25 +67,25 @@ returns-2 : tie.Need-returns-2
 returns-2 c =
     let f = c .before in
     let e = f .before .before in
-    check-refused _ _ _ (by-entries _ (no-head (e .before .before)) (entries e ∙ ap finding (f .found2 .given .1)))
+    check-refused _ _ _ (by-entries _ (no-head (e .before)) (sym (e .entry-fault .ensures) ∙ ap finding (f .found2 .given .1)))
 
 enum-told-2 : tie.Need-enum-told-2
 enum-told-2 c = search needs
 
 reads-requires : tie.Need-reads-requires
-reads-requires c κs = counted (c .before .before .before .before)
+reads-requires c κs = counted (c .before .before .before)
 
 writes-requires : tie.Need-writes-requires
-writes-requires c κs = counted (c .before .before .before .before .before)
+writes-requires c κs = counted (c .before .before .before .before)
 
 spare-at-requires : tie.Need-spare-at-requires
 spare-at-requires c κs =
-    let g = counted (c .before .before .before .before .before .before) in
-    let p = now (c .before .before .before .before .before .before .before .before .before .before .args .page) in
+    let g = counted (c .before .before .before .before .before) in
+    let p = now (c .before .before .before .before .before .before .before .before .before .args .page) in
     (omega (arith, c .before .reads .ensures, count-reads p, g .few-reads), omega (arith, c .writes .ensures, count-writes p, g .few-writes))
 
 any-set-requires : tie.Need-any-set-requires
-any-set-requires c κs = omega (arith, spare c, counted (c .before .before .before .before .before .before .before))
+any-set-requires c κs = omega (arith, spare c, counted (c .before .before .before .before .before .before))
 
 returns-3 : tie.Need-returns-3
 returns-3 c = let f = c .before in check-refused _ 10 0 (last f ∙ row-there _ [] (sym (searched f) ∙ c .if1 .taken))
@@ -106,15 +94,15 @@ returns-3 c = let f = c .before in check-refused _ 10 0 (last f ∙ row-there _ 
 few : (c : tie.Else1) → (c .before .before .before .before .reads .result ≤ 32) × (c .before .before .before .writes .result ≤ 32)
 few c =
     let w = c .before .before .before in
-    let g = counted (w .before .before .before .before .before .before) in
-    let p = now (w .before .before .before .before .before .before .before .before .before .before .args .page) in
+    let g = counted (w .before .before .before .before .before) in
+    let p = now (w .before .before .before .before .before .before .before .before .before .args .page) in
     (omega (arith, w .before .reads .ensures, count-reads p, g .few-reads), omega (arith, w .writes .ensures, count-writes p, g .few-writes))
+
+cast-t11 : tie.Need-cast-t11
+cast-t11 c = omega (arith, few c)
 
 cast-t12 : tie.Need-cast-t12
 cast-t12 c = omega (arith, few c)
-
-cast-t13 : tie.Need-cast-t13
-cast-t13 c = omega (arith, few c)
 
 returns-4 : tie.Need-returns-4
 unfolding first
@@ -131,7 +119,6 @@ exactly-spec =
     enum-known-found
     returns
     enum-told
-    page-at-requires
     entry-fault-requires
     enum-known-found-2
     returns-2
@@ -141,6 +128,6 @@ exactly-spec =
     spare-at-requires
     any-set-requires
     returns-3
+    cast-t11
     cast-t12
-    cast-t13
     returns-4)

@@ -2,7 +2,7 @@
 use mathlib.Core.Path.{_≡_, refl, sym, ap, ap₂, _∙_}
 use mathlib.Core.Bool.{false}
 use mathlib.Core.List.{List, [], _∷_, _++_, append-assoc}
-use Prim.Native.Nat.{ℕ, _+_, _-_, _*_, _^_, _≤_, _<_}
+use Prim.Native.Nat.{ℕ, _+_, _-_, _*_, _/_, _^_, _≤_, _<_}
 use native.Mathlib.Omega.{arith}
 use lib.ListN.{length, getD, replicate, length-append, length-take, getD-replicate, length-replicate, replicate-append-replicate, List·getD-append}
 use lib.Seq.{sets, getD-append-add}
@@ -18,6 +18,7 @@ use Rattle.octets.specs.Bytes.{field, le, weighed, set?, Small}
 use Rattle.ledger.specs.Tx.{Tx, noRead, noWrite, readOf, writeOf, valueTx, ReadFits, WriteFits, TransactionFits}
 use Rattle.ledger.specs.Page.{readCount, writeCount, size, readAt, writeAt, readBytes, writeBytes, laidOf, bodyOf, pageOf, pageTx, countRows, headRows, entryRows, spareRow, pageFault}
 use Rattle.ledger.specs.Inner.{Counted}
+use Rattle.ledger.specs.Services.{laidRows, writeRows, writePage, writeLaid}
 use Rattle.octets.proofs.Numbers.{check-most}
 use Rattle.octets.proofs.Stored.{length-le}
 use Rattle.lists.proofs.Tables.{tab-same, tab-list}
@@ -26,7 +27,7 @@ use Rattle.octets.proofs.Fields.{field-skip, field-front, field-le, entry-first
 use Rattle.ledger.proofs.Laid.{front, upToWrites, upToSpare, length-front, length-two, length-three, length-body, length-whole, weighed-front, sets-zeros, sets-end}
 use Rattle.ledger.proofs.Valued.{read-of, write-of, reads-many, writes-many}
 use Rattle.refusals.specs.Fault.{clear, first}
-use Rattle.refusals.proofs.Rows.{row-passed}
+use Rattle.refusals.proofs.Rows.{row-passed, append-clear}
 use Rattle.ledger.proofs.Faults.{Roomy, roomy, headFault, by-spare}
 
 -- the entries of a transaction are within the ranges of their types
@@ -270,6 +271,12 @@ drafted t fits lr lw n p e =
       holds = ap pageTx laid ∙ tx-laid x _ (fitting t fits);
       filled = page-filled x m p laid;
     }
+
+-- so writing it is writing the transaction
+pub written : (batch : List ℕ) (index : ℕ) (t : Transaction) (p : List ℕ) → first (countRows (t .r) (t .w)) ≡ clear → Drafted t p
+    → writeLaid batch index p ≡ writePage batch index t
+unfolding writeLaid writePage writeRows
+written batch index t p e d = rw (d .holds, d .filled, append-clear (countRows (t .r) (t .w)) (laidRows (valueTx t) index (length batch / 512)) e)
 
 -- fewer entries have room too
 room-less : (r w a b : ℕ) → a ≤ r → b ≤ w → first (countRows r w) ≡ clear → first (countRows a b) ≡ clear

@@ -11,13 +11,13 @@ use Rattle.lists.proofs.Searches.{some, none}
 use Rattle.refusals.specs.Outcome.{gives, refuses}
 use Rattle.refusals.specs.Fault.{Fault, clear, fault, first}
 use Rattle.refusals.proofs.Rows.{row-none, row-passed, append-clear, append-fault, append-none, judged-gives, judged-refuses}
-use Rattle.octets.specs.Bytes.{field, weighed, set?}
+use lib.Seq.{sets}
+use Rattle.octets.specs.Bytes.{field, le, weighed, set?}
 use Rattle.ledger.specs.Tx.{Tx, valueTx, padded, readOf, writeOf, outOfTurn, wrongVersion, wrongKind}
 use Rattle.ledger.specs.Page.{readCount, writeCount, size, countRows, entryRows, headRows, lengthRow, spareRow, wholeRows, pageRows, pageFault, pageTx, pageOf, withPage}
 use Rattle.ledger.specs.Inner.{Counted}
 use Rattle.ledger.specs.declared.Transaction.{Transaction}
-use Rattle.ledger.specs.Services.{Counts, checkPage, readPage, indexRow, writeRows, writeFault, writePage}
-use Rattle.ledger.specs.Services.{noTransaction}
+use Rattle.ledger.specs.Services.{Counts, noTransaction, checkPage, readPage, indexRow, laidRows, writeRows, writeFault, writePage, writeLaid}
 
 -- ---- tests
 
@@ -231,10 +231,6 @@ module _ (batch : List ℕ) (index : ℕ) (t : Transaction) where
   unfolding writeRows
   wrong-counts e = append-fault (countRows (t .r) (t .w)) _ e
 
-  pub wrong-entries : {n q : ℕ} → first (countRows (t .r) (t .w)) ≡ clear → first (entryRows (valueTx t)) ≡ fault n q → wrong ≡ fault n q
-  unfolding writeRows
-  wrong-entries e h = append-clear (countRows (t .r) (t .w)) _ e ∙ append-fault (entryRows (valueTx t)) _ h
-
   pub wrong-index : first (countRows (t .r) (t .w)) ≡ clear → first (entryRows (valueTx t)) ≡ clear → wrong ≡ first (indexRow index (length batch / 512) ∷ [])
   unfolding writeRows
   wrong-index e h = append-clear (countRows (t .r) (t .w)) _ e ∙ append-clear (entryRows (valueTx t)) _ h
@@ -247,3 +243,23 @@ module _ (batch : List ℕ) (index : ℕ) (t : Transaction) where
   pub write-done : wrong ≡ clear → record { answer = gives 0; batch = withPage batch index (pageOf (valueTx t)) } ≡ writePage batch index t
   unfolding writePage
   write-done e = rw e
+
+-- ---- 6 to 9, then 17, of bytes that are laid out
+
+module _ (batch : List ℕ) (index : ℕ) (p : List ℕ) where
+  abbrev laidWrong : Fault
+  laidWrong = first (laidRows (pageTx p) index (length batch / 512))
+
+  pub laid-entries : {n q : ℕ} → first (entryRows (pageTx p)) ≡ fault n q → laidWrong ≡ fault n q
+  laid-entries e = append-fault (entryRows (pageTx p)) _ e
+
+  pub laid-index : first (entryRows (pageTx p)) ≡ clear → laidWrong ≡ first (indexRow index (length batch / 512) ∷ [])
+  laid-index e = append-clear (entryRows (pageTx p)) _ e
+
+  pub laid-refused : (n q : ℕ) → laidWrong ≡ fault n q → record { answer = refuses n q; batch = batch } ≡ writeLaid batch index p
+  unfolding writeLaid
+  laid-refused n q e = rw e
+
+  pub laid-done : laidWrong ≡ clear → record { answer = gives 0; batch = withPage batch index (sets p 508 (le 4 (weighed p 508))) } ≡ writeLaid batch index p
+  unfolding writeLaid
+  laid-done e = rw e

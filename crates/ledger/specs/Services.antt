@@ -3,6 +3,7 @@ use Prim.Native.Nat.{ℕ, _/_}
 use mathlib.Core.Bool.{not}
 use mathlib.Core.List.{List, [], _∷_, _++_}
 use lib.ListN.{length, replicate}
+use lib.Seq.{sets}
 use lib.Dec.{ltb}
 use Rattle.refusals.specs.declared.Answer.{Answer}
 use Rattle.refusals.specs.Outcome.{Outcome, gives, refuses, outcome}
@@ -11,7 +12,8 @@ use Rattle.ledger.specs.declared.Transaction.{Transaction}
 use Rattle.ledger.specs.declared.PageCheck.{PageCheck}
 use Rattle.ledger.specs.declared.PageCheck.the-variants.{Good, Bad}
 use Rattle.ledger.specs.declared.PageRead.{PageRead}
-use Rattle.ledger.specs.Tx.{valueTx, padded, noRead, noWrite}
+use Rattle.octets.specs.Bytes.{le, weighed}
+use Rattle.ledger.specs.Tx.{Tx, valueTx, padded, noRead, noWrite}
 use Rattle.ledger.specs.Page.{countRows, entryRows, pageTx, pageFault, pageOf, withPage}
 
 -- ---- checking a page
@@ -57,9 +59,13 @@ pub record WrittenPage : Type 0 where
 abbrev pub indexRow : ℕ → ℕ → Row
 indexRow index pages = row 17 0 (not (ltb index pages))
 
+-- 6 to 9, then 17
+abbrev pub laidRows : Tx → ℕ → ℕ → List Row
+laidRows x index pages = entryRows x ++ (indexRow index pages ∷ [])
+
 -- "Writing a page: 4 to 9, then 17, page 0."
 unfoldable pub writeRows : Transaction → ℕ → ℕ → List Row
-writeRows t index pages = countRows (t .r) (t .w) ++ (entryRows (valueTx t) ++ (indexRow index pages ∷ []))
+writeRows t index pages = countRows (t .r) (t .w) ++ laidRows (valueTx t) index pages
 
 abbrev pub writeFault : Transaction → ℕ → ℕ → Fault
 writeFault t index pages = first (writeRows t index pages)
@@ -69,6 +75,12 @@ unfoldable pub writePage : List ℕ → ℕ → Transaction → WrittenPage
 writePage batch index t =
     let wrong = writeFault t index (length batch / 512) in
     record { answer = judged wrong 0; batch = after wrong (withPage batch index (pageOf (valueTx t))) batch }
+
+-- the same of bytes that are laid out already, with the check put behind them: "508 to 511: check"
+unfoldable pub writeLaid : List ℕ → ℕ → List ℕ → WrittenPage
+writeLaid batch index p =
+    let wrong = first (laidRows (pageTx p) index (length batch / 512)) in
+    record { answer = judged wrong 0; batch = after wrong (withPage batch index (sets p 508 (le 4 (weighed p 508)))) batch }
 
 -- the answer of the writer as an outcome, with the batch as it is at the end
 abbrev pub put : Answer → List ℕ → WrittenPage

@@ -2,7 +2,7 @@
 use crate::PageCheck;
 use crate::layout;
 use crate::page::check;
-use crate::page::held;
+use crate::page::content;
 use crate::state;
 use refusals::Finding;
 ghost use mathlib.Core.Path.{_≡_};
@@ -69,20 +69,20 @@ pub fn tickets(batch: &[u8], m: usize) -> [u32; layout::MOST_PAGES]
     let mut all = [0u32; layout::MOST_PAGES];
     let mut i = 0;
     while i < m {
-        all[i] = held::ticket(layout::page_at(batch, i));
+        all[i] = content::ticket(layout::page_at(batch, i));
         i += 1;
     }
     all
 }
 
-// Whether one of the first `n` tickets is `ticket`. All are compared, and none ends the loop, so it is vector code.
-fn among(tickets: &[u32; layout::MOST_PAGES], n: usize, ticket: u32) -> bool
-    requires { ⌜ n ≤ 64 ⌝ }
-    ensures { λ r. ⌜ r ≡ someIn (λ j. eqb (getD (now (tickets .entry)) j 0) ticket) 0 n ⌝ }
+// Whether one of the first `count` tickets is `ticket`. All are compared, and none ends the loop, so it is vector code.
+fn among(tickets: &[u32; layout::MOST_PAGES], count: usize, ticket: u32) -> bool
+    requires { ⌜ count ≤ 64 ⌝ }
+    ensures { λ r. ⌜ r ≡ someIn (λ j. eqb (getD (now (tickets .entry)) j 0) ticket) 0 count ⌝ }
 {
     let mut found = false;
     let mut j = 0;
-    while j < n {
+    while j < count {
         found = found | (tickets[j] == ticket);
         j += 1;
     }
@@ -112,16 +112,16 @@ fn reaches_beyond(page: &[u8], keys: usize) -> bool
     requires { ⌜ pageFault (now page) ≡ clear ⌝ }
     ensures { λ r. ⌜ r ≡ beyond keys (pageTx (now (page .entry))) ⌝ }
 {
-    let r = held::reads(page);
+    let r = content::reads(page);
     if r > 0 {
-        let last = held::read(page, r - 1);
+        let last = content::read(page, r - 1);
         if last.key as usize >= keys {
             return true;
         }
     }
-    let w = held::writes(page);
+    let w = content::writes(page);
     if w > 0 {
-        let last = held::write(page, w - 1);
+        let last = content::write(page, w - 1);
         if last.key as usize >= keys {
             return true;
         }

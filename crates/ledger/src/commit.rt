@@ -5,7 +5,7 @@ use crate::Version;
 use crate::Write;
 use crate::batch;
 use crate::layout;
-use crate::page::held;
+use crate::page::content;
 use crate::rules;
 use crate::state;
 use refusals::Answer;
@@ -37,17 +37,17 @@ fn first_stale(page: &[u8], blocks: &[u32], places: &[u16]) -> usize
         (readOf (pageTx (now (page .entry)) .reads) i))) 0 (length (pageTx (now (page .entry)) .reads))
         ⌝ }
 {
-    let n = held::reads(page);
+    let count = content::reads(page);
     let mut i = 0;
-    while i < n {
-        let x = held::read(page, i);
+    while i < count {
+        let x = content::read(page, i);
         let version = x.version;
         if !version.same(state::version_at(blocks, places, x.key as usize)) {
             return i;
         }
         i += 1;
     }
-    n
+    count
 }
 
 // Whether each read of a page names the version that its key has.
@@ -58,7 +58,7 @@ pub fn passes(page: &[u8], blocks: &[u32], places: &[u16]) -> bool
         r ≡ passes (versionsIn (now (blocks .entry)) (now (places .entry))) (pageTx (now (page .entry)))
         ⌝ }
 {
-    first_stale(page, blocks, places) == held::reads(page)
+    first_stale(page, blocks, places) == content::reads(page)
 }
 
 // What a write leaves: a put its value under the stamp, a delete an absent key, whose value is the delete's own, 0.
@@ -89,11 +89,11 @@ fn apply(page: &[u8], blocks: &mut [u32], places: &mut [u16], values: &mut [i64]
         left ≡ write stamp s (pageTx (now (page .entry)) .writes)
         ) ⌝ }
 {
-    let count = held::writes(page);
-    let from = layout::writes_at(held::reads(page));
+    let count = content::writes(page);
+    let from = layout::writes_at(content::reads(page));
     let mut j = 0;
     while j < count {
-        let x = held::write_at(page, from + layout::WRITE * j);
+        let x = content::write_at(page, from + layout::WRITE * j);
         state::store(blocks, places, values, x.key as usize, left(x, stamp));
         j += 1;
     }

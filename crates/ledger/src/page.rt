@@ -1,8 +1,8 @@
 // Pages: 512 bytes that hold one transaction.
 pub mod check;
-mod counts;
-mod fill;
+pub mod content;
+pub mod counts;
+pub mod fill;
 mod good;
-pub mod held;
 pub mod read;
 pub mod write;

@@ -14,11 +14,11 @@ fn complain(why: &[u8]) {
     io::write_all(libc::STDERR_FILENO, why);
 }
 
-// Writes the first `n` bytes of a text to standard output.
-fn show(text: &[u8], n: usize)
-    requires { ⌜ n ≤ length (now text) ⌝ }
+// Writes the first `count` bytes of a text to standard output.
+fn show(text: &[u8], count: usize)
+    requires { ⌜ count ≤ length (now text) ⌝ }
 {
-    if !io::write_all(libc::STDOUT_FILENO, &text[..n]) {
+    if !io::write_all(libc::STDOUT_FILENO, &text[..count]) {
         complain(b"listing: standard output failed\n");
     }
 }
@@ -35,11 +35,11 @@ fn run(page: &mut [u8], text: &mut [u8]) -> Input
     let mut places = [65535u16; 1024];
     let mut values = [0i64; 1024];
     let read = stdin::read_input(page);
-    let n = program::answer(read, page, &mut blocks, &mut places, &mut values, text);
+    let count = program::answer(read, page, &mut blocks, &mut places, &mut values, text);
     if let Input::Unread = read {
         complain(b"listing: standard input failed\n");
     } else {
-        show(text, n);
+        show(text, count);
     }
     read
 }

@@ -1,3 +1,4 @@
-pub mod Tabled
+pub mod Filling
+pub mod Lending
 pub mod Worded
 pub mod Paged

@@ -5,9 +5,13 @@ use lib.ListN.{getD}
 use lib.IntN.{ℤ, pos}
 use Rattle.refusals.specs.Outcome.{gives, refuses}
 use Rattle.tonnage.specs.Services.{readText, WrittenText}
+use Rattle.ledger.specs.declared.Read.{Read}
+use Rattle.ledger.specs.declared.Write.{Write}
 use Rattle.ledger.specs.declared.Transaction.{Transaction}
 use Rattle.lists.specs.Tables.{tab}
 use Rattle.ledger.specs.Version.{at}
+use Rattle.ledger.specs.Tx.{padded}
+use Rattle.ledger.specs.Page.{pageTx}
 use Rattle.ledger.specs.Services.{readPage, WrittenPage}
 use Rattle.ledger.specs.State.{State}
 use Rattle.ledger.specs.Commit.{Commits}
@@ -25,14 +29,21 @@ pub record Arrays : Type 0 where
   pub writeKinds : List ℕ
   pub writeValues : List ℤ
 
+-- entry i of three arrays
+abbrev pub lentRead : List ℕ → List ℕ → List ℕ → ℕ → Read
+lentRead keys places blocks i = record { key = getD keys i 0; version = at (getD blocks i 0) (getD places i 0) }
+
+abbrev pub lentWrite : List ℕ → List ℕ → List ℤ → ℕ → Write
+lentWrite keys kinds values i = record { key = getD keys i 0; kind = getD kinds i 0; value = getD values i (pos 0) }
+
 -- the transaction in them
 unfoldable pub lentTx : Arrays → Transaction
 lentTx a = record {
   ticket = getD (a .head) 2 0;
   r = getD (a .head) 0 0;
   w = getD (a .head) 1 0;
-  reads = tab 32 (λ i. record { key = getD (a .readKeys) i 0; version = at (getD (a .readBlocks) i 0) (getD (a .readPlaces) i 0) });
-  writes = tab 32 (λ i. record { key = getD (a .writeKeys) i 0; kind = getD (a .writeKinds) i 0; value = getD (a .writeValues) i (pos 0) });
+  reads = tab 32 (lentRead (a .readKeys) (a .readPlaces) (a .readBlocks));
+  writes = tab 32 (lentWrite (a .writeKeys) (a .writeKinds) (a .writeValues));
 }
 
 -- and a transaction laid out in them
@@ -48,6 +59,10 @@ arraysOf t = record {
 }
 
 -- ---- reading a page
+
+-- the transaction on a page in the arrays: "Reading a page fills entries beyond the counts with zero"
+abbrev pub arraysOn : List ℕ → Arrays
+arraysOn p = arraysOf (padded (pageTx p))
 
 pub record PageLeft : Type 0 where
   pub word : ℕ

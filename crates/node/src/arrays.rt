@@ -3,37 +3,31 @@ use ledger::Read;
 use ledger::Version;
 use ledger::Write;
 use ledger::layout;
+use ledger::page::content;
+use ledger::page::fill;
 ghost use mathlib.Core.Path.{_≡_};
-ghost use lib.ListN.{length, getD};
+ghost use Prim.Native.Nat.{ℕ, _+_, _*_, _≤_, _<_};
+ghost use lib.ListN.{length, replicate};
+ghost use lib.Seq.{sets};
 ghost use lib.IntN.{pos};
-ghost use Rattle.lists.specs.Tables.{tab};
-ghost use Rattle.ledger.specs.Version.{at};
-ghost use Rattle.ledger.specs.Tx.{readOf, writeOf};
+ghost use Rattle.lists.specs.Tables.{flat};
+ghost use Rattle.ledger.specs.Tx.{ReadFits, WriteFits};
+ghost use Rattle.ledger.specs.Page.{readBytes, writeBytes};
+ghost use Rattle.ledger.specs.Inner.{Counted};
+ghost use Rattle.node.specs.Lent.{arraysOn, lentRead, lentWrite};
 
-// Entries of each array.
-const ENTRIES: usize = layout::MOST_ENTRIES;
-
-const NO_READ: Read = Read {
-    key: 0,
-    version: Version { block: 0, place: 0 },
-};
-
-const NO_WRITE: Write = Write {
-    key: 0,
-    kind: 0,
-    value: 0,
-};
-
-// Fills three arrays with the reads of a transaction.
-pub fn fill_reads(reads: [Read; ENTRIES], keys: &mut [u16], places: &mut [u16], blocks: &mut [u32])
-    requires { ⌜ (length (now keys) ≡ 32) × (length (now places) ≡ 32) × (length (now blocks) ≡ 32) ⌝ }
-    ensures { λ _. ⌜ now (keys .exit) ≡ tab 32 (λ i. readOf reads i .key) ⌝ }
-    ensures { λ _. ⌜ now (places .exit) ≡ tab 32 (λ i. readOf reads i .version .place) ⌝ }
-    ensures { λ _. ⌜ now (blocks .exit) ≡ tab 32 (λ i. readOf reads i .version .block) ⌝ }
+// Fills three arrays of zeros with the reads of a page.
+pub fn fill_reads(page: &[u8], keys: &mut [u16], places: &mut [u16], blocks: &mut [u32])
+    requires { ⌜ Counted (now page) ⌝ }
+    requires { ⌜ (now keys ≡ replicate 32 0) × (now places ≡ replicate 32 0) × (now blocks ≡ replicate 32 0) ⌝ }
+    ensures { λ _. ⌜ now (keys .exit) ≡ arraysOn (now (page .entry)) .readKeys ⌝ }
+    ensures { λ _. ⌜ now (places .exit) ≡ arraysOn (now (page .entry)) .readPlaces ⌝ }
+    ensures { λ _. ⌜ now (blocks .exit) ≡ arraysOn (now (page .entry)) .readBlocks ⌝ }
 {
+    let n = content::reads(page);
     let mut i = 0;
-    while i < ENTRIES {
-        let x = reads[i];
+    while i < n {
+        let x = content::read(page, i);
         keys[i] = x.key;
         places[i] = x.version.place;
         blocks[i] = x.version.block;
@@ -41,21 +35,19 @@ pub fn fill_reads(reads: [Read; ENTRIES], keys: &mut [u16], places: &mut [u16], 
     }
 }
 
-// Fills three arrays with the writes of a transaction.
-pub fn fill_writes(
-    writes: [Write; ENTRIES],
-    keys: &mut [u16],
-    kinds: &mut [u16],
-    values: &mut [i64],
-)
-    requires { ⌜ (length (now keys) ≡ 32) × (length (now kinds) ≡ 32) × (length (now values) ≡ 32) ⌝ }
-    ensures { λ _. ⌜ now (keys .exit) ≡ tab 32 (λ i. writeOf writes i .key) ⌝ }
-    ensures { λ _. ⌜ now (kinds .exit) ≡ tab 32 (λ i. writeOf writes i .kind) ⌝ }
-    ensures { λ _. ⌜ now (values .exit) ≡ tab 32 (λ i. writeOf writes i .value) ⌝ }
+// Fills three arrays of zeros with the writes of a page.
+pub fn fill_writes(page: &[u8], keys: &mut [u16], kinds: &mut [u16], values: &mut [i64])
+    requires { ⌜ Counted (now page) ⌝ }
+    requires { ⌜ (now keys ≡ replicate 32 0) × (now kinds ≡ replicate 32 0) × (now values ≡ replicate 32 (pos 0)) ⌝ }
+    ensures { λ _. ⌜ now (keys .exit) ≡ arraysOn (now (page .entry)) .writeKeys ⌝ }
+    ensures { λ _. ⌜ now (kinds .exit) ≡ arraysOn (now (page .entry)) .writeKinds ⌝ }
+    ensures { λ _. ⌜ now (values .exit) ≡ arraysOn (now (page .entry)) .writeValues ⌝ }
 {
+    let n = content::writes(page);
+    let from = layout::writes_at(content::reads(page));
     let mut i = 0;
-    while i < ENTRIES {
-        let x = writes[i];
+    while i < n {
+        let x = content::write_at(page, from + layout::WRITE * i);
         keys[i] = x.key;
         kinds[i] = x.kind;
         let value = x.value;
@@ -71,61 +63,61 @@ pub fn count(n: u32) -> usize
     n as usize
 }
 
-// The reads in three arrays.
-pub fn reads_of(
-    keys: &[u16; ENTRIES],
-    places: &[u16; ENTRIES],
-    blocks: &[u32; ENTRIES],
-) -> [Read; ENTRIES]
-    ensures { λ xs. ⌜
-        xs
-        ≡ tab 32 (λ i. record {
-          key = getD (now (keys .entry)) i 0;
-          version = at (getD (now (blocks .entry)) i 0)
-              (getD (now (places .entry)) i 0);
-        })
+// Lays out the first `count` reads in three arrays, behind the head.
+pub fn lay_reads(p: &mut [u8], keys: &[u16], places: &[u16], blocks: &[u32], count: usize)
+    requires { ⌜ (count ≤ 32) × (8 + 8 * count ≤ length (now p)) ⌝ }
+    requires { ⌜ (length (now keys) ≡ 32) × (length (now places) ≡ 32) × (length (now blocks) ≡ 32) ⌝ }
+    ensures { λ _. ⌜
+        now (p .exit)
+        ≡ sets (now (p .entry)) 8
+        (flat count (λ i. readBytes (lentRead (now (keys .entry)) (now (places .entry)) (now (blocks .entry)) i)))
+        ⌝ }
+    ensures { λ _. ⌜
+        ((i : ℕ) → i < count → ReadFits (lentRead (now (keys .entry)) (now (places .entry)) (now (blocks .entry)) i))
         ⌝ }
 {
-    let mut xs = [NO_READ; ENTRIES];
     let mut i = 0;
-    while i < ENTRIES {
-        xs[i] = Read {
+    while i < count {
+        let x = Read {
             key: keys[i],
             version: Version {
                 block: blocks[i],
                 place: places[i],
             },
         };
+        fill::put_read(p, layout::HEAD + layout::READ * i, x);
         i += 1;
     }
-    xs
 }
 
-// The writes in three arrays.
-pub fn writes_of(
-    keys: &[u16; ENTRIES],
-    kinds: &[u16; ENTRIES],
-    values: &[i64; ENTRIES],
-) -> [Write; ENTRIES]
-    ensures { λ xs. ⌜
-        xs
-        ≡ tab 32 (λ i. record {
-          key = getD (now (keys .entry)) i 0;
-          kind = getD (now (kinds .entry)) i 0;
-          value = getD
-              (now (values .entry)) i (pos 0);
-        })
+// Lays out the first `count` writes in three arrays, from `at` on.
+pub fn lay_writes(
+    p: &mut [u8],
+    at: usize,
+    keys: &[u16],
+    kinds: &[u16],
+    values: &[i64],
+    count: usize,
+)
+    requires { ⌜ (count ≤ 32) × (at + 12 * count ≤ length (now p)) ⌝ }
+    requires { ⌜ (length (now keys) ≡ 32) × (length (now kinds) ≡ 32) × (length (now values) ≡ 32) ⌝ }
+    ensures { λ _. ⌜
+        now (p .exit)
+        ≡ sets (now (p .entry)) at
+        (flat count (λ i. writeBytes (lentWrite (now (keys .entry)) (now (kinds .entry)) (now (values .entry)) i)))
+        ⌝ }
+    ensures { λ _. ⌜
+        ((i : ℕ) → i < count → WriteFits (lentWrite (now (keys .entry)) (now (kinds .entry)) (now (values .entry)) i))
         ⌝ }
 {
-    let mut xs = [NO_WRITE; ENTRIES];
     let mut i = 0;
-    while i < ENTRIES {
-        xs[i] = Write {
+    while i < count {
+        let x = Write {
             key: keys[i],
             kind: kinds[i],
             value: values[i],
         };
+        fill::put_write(p, at + layout::WRITE * i, x);
         i += 1;
     }
-    xs
 }

@@ -1,8 +1,13 @@
 // The services for other languages: a static library. Each promise is that of the service below it.
 use ledger::PageCheck;
-use ledger::Transaction;
 use ledger::layout;
+use ledger::page::check;
+use ledger::page::content;
+use ledger::page::counts;
+use ledger::page::fill;
+use ledger::page::write;
 use refusals::Answer;
+use refusals::Finding;
 use refusals::Refusal;
 use tonnage::Reading;
 ghost use mathlib.Core.Path.{_≡_};
@@ -141,19 +146,17 @@ pub extern "C" fn nevolisca_read_page(
         })
         ⌝ }
 {
-    let found = ledger::page::read::read_page(page);
-    let check = found.check;
-    let t = found.transaction;
-    match check {
-        PageCheck::Good {
-            reads: _,
-            writes: _,
-        } => {
-            *head = [t.r as u32, t.w as u32, t.ticket];
-            let reads = t.reads;
-            arrays::fill_reads(reads, read_keys, read_places, read_blocks);
-            let writes = t.writes;
-            arrays::fill_writes(writes, write_keys, write_kinds, write_values);
+    match check::check_page(page) {
+        PageCheck::Good { reads, writes } => {
+            *head = [reads, writes, content::ticket(page)];
+            *read_keys = [0u16; layout::MOST_ENTRIES];
+            *read_places = [0u16; layout::MOST_ENTRIES];
+            *read_blocks = [0u32; layout::MOST_ENTRIES];
+            arrays::fill_reads(page, read_keys, read_places, read_blocks);
+            *write_keys = [0u16; layout::MOST_ENTRIES];
+            *write_kinds = [0u16; layout::MOST_ENTRIES];
+            *write_values = [0i64; layout::MOST_ENTRIES];
+            arrays::fill_writes(page, write_keys, write_kinds, write_values);
             0
         }
         PageCheck::Bad { refusal } => refused(refusal),
@@ -187,14 +190,22 @@ pub extern "C" fn nevolisca_write_page(
         })))
         ⌝ }
 {
-    let reads = arrays::reads_of(read_keys, read_places, read_blocks);
-    let writes = arrays::writes_of(write_keys, write_kinds, write_values);
-    let t = Transaction {
-        ticket: head[2],
-        r: arrays::count(head[0]),
-        w: arrays::count(head[1]),
-        reads,
-        writes,
-    };
-    answered(ledger::page::write::write_page(batch, index, t))
+    let r = arrays::count(head[0]);
+    let w = arrays::count(head[1]);
+    let found = counts::count_fault(r, w);
+    if let Finding::Found { refusal } = found {
+        return refused(refusal);
+    }
+    let mut laid = [0u8; layout::PAGE];
+    fill::put_head(&mut laid, r, w, head[2]);
+    arrays::lay_reads(&mut laid, read_keys, read_places, read_blocks, r);
+    arrays::lay_writes(
+        &mut laid,
+        layout::writes_at(r),
+        write_keys,
+        write_kinds,
+        write_values,
+        w,
+    );
+    answered(write::write_laid(batch, index, &laid))
 }

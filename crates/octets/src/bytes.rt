@@ -59,14 +59,14 @@ pub fn copy(from: &[u8], to: &mut [u8])
     }
 }
 
-// Writes `v` in the `n` bytes from `at` on.
-pub fn put(p: &mut [u8], at: usize, n: usize, v: u64)
-    requires { ⌜ at + n ≤ length (now p) ⌝ }
-    ensures { λ _. ⌜ now (p .exit) ≡ sets (now (p .entry)) at (le n v) ⌝ }
+// Writes `v` in the `count` bytes from `at` on.
+pub fn put(p: &mut [u8], at: usize, count: usize, v: u64)
+    requires { ⌜ at + count ≤ length (now p) ⌝ }
+    ensures { λ _. ⌜ now (p .exit) ≡ sets (now (p .entry)) at (le count v) ⌝ }
 {
     let mut rest = v;
     let mut k = 0;
-    while k < n {
+    while k < count {
         p[at + k] = (rest % 256) as u8;
         rest = rest / 256;
         k += 1;

@@ -1,6 +1,6 @@
 // Rule 2: who must stand before whom. Pages are named by their rank in ticket order; `pages` has the page of each rank.
 use ledger::layout;
-use ledger::page::held;
+use ledger::page::content;
 ghost use mathlib.Core.Path.{_≡_};
 ghost use mathlib.Core.Bool.{not, _&&_, _||_};
 ghost use Prim.Native.Nat.{ℕ, _<_};
@@ -25,10 +25,10 @@ fn add_reads(page: &[u8], rank: usize, readers: &mut [u64])
         ≡ (member (getD (now (readers .entry)) k 0) j || (eqb rank j && reader (pageTx (now (page .entry))) k)))
         ⌝ }
 {
-    let n = held::reads(page);
+    let count = content::reads(page);
     let mut i = 0;
-    while i < n {
-        let x = held::read(page, i);
+    while i < count {
+        let x = content::read(page, i);
         let key = x.key as usize;
         readers[key] = sets::with(readers[key], rank);
         i += 1;
@@ -68,11 +68,11 @@ fn blockers_of(page: &[u8], rank: usize, readers: &[u64; layout::MOST_KEYS]) -> 
         && not (eqb rank j)))
         ⌝ }
 {
-    let n = held::writes(page);
+    let count = content::writes(page);
     let mut all = 0u64;
     let mut i = 0;
-    while i < n {
-        let x = held::write(page, i);
+    while i < count {
+        let x = content::write(page, i);
         let key = x.key as usize;
         all = sets::union(all, readers[key]);
         i += 1;

@@ -3,7 +3,7 @@ use crate::put;
 use ledger::Entry;
 use ledger::Version;
 use ledger::layout;
-use ledger::page::held;
+use ledger::page::content;
 use ledger::state;
 ghost use Prim.Native.Nat.{_+_, _*_, _≤_, _<_};
 ghost use mathlib.Core.Path.{_≡_};
@@ -120,7 +120,7 @@ pub fn put_pages(
     let mut next = at;
     let mut i = 0;
     while i < m {
-        let ticket = held::ticket(layout::page_at(batch, i));
+        let ticket = content::ticket(layout::page_at(batch, i));
         next = put_page(out, next, ticket, verdicts[i], order, k, i);
         i += 1;
     }

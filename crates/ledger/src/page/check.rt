@@ -2,9 +2,9 @@
 // each search of the entries gives where it stopped.
 use crate::PageCheck;
 use crate::layout;
+use crate::page::content;
 use crate::page::counts;
 use crate::page::good;
-use crate::page::held;
 use crate::rules;
 use octets::bytes;
 use octets::weight;
@@ -21,14 +21,14 @@ ghost use Rattle.ledger.specs.Page.{keyAt, pageTx, lengthRow, headRows, 
 ghost use Rattle.ledger.specs.Inner.{Counted};
 ghost use Rattle.ledger.specs.Services.{checked, checkPage};
 
-// The first of `n` keys that is out of turn, where entries start at `from`, `step` bytes apart; `n` where none is.
-fn first_key(page: &[u8], from: usize, step: usize, n: usize) -> usize
-    requires { ⌜ (2 ≤ step) × (from + step * n ≤ length (now page)) ⌝ }
-    ensures { λ i. ⌜ i ≡ firstIn (outOfTurn (keyAt (now (page .entry)) from step)) 0 n ⌝ }
+// The first of `count` keys that is out of turn, where entries start at `from`, `step` bytes apart; `count` where none is.
+fn first_key(page: &[u8], from: usize, step: usize, count: usize) -> usize
+    requires { ⌜ (2 ≤ step) × (from + step * count ≤ length (now page)) ⌝ }
+    ensures { λ i. ⌜ i ≡ firstIn (outOfTurn (keyAt (now (page .entry)) from step)) 0 count ⌝ }
 {
     let mut floor: u32 = 0;
     let mut i = 0;
-    while i < n {
+    while i < count {
         let key = bytes::le2(page, from + step * i);
         if rules::key_wrong(floor, key) {
             return i;
@@ -36,7 +36,7 @@ fn first_key(page: &[u8], from: usize, step: usize, n: usize) -> usize
         floor = (key as u32) + 1;
         i += 1;
     }
-    n
+    count
 }
 
 // The first read whose version is of another form; the count of reads where none is.
@@ -48,17 +48,17 @@ fn first_version(page: &[u8]) -> usize
         (length (pageTx (now (page .entry)) .reads))
         ⌝ }
 {
-    let n = held::reads(page);
+    let count = content::reads(page);
     let mut i = 0;
-    while i < n {
-        let read = held::read(page, i);
+    while i < count {
+        let read = content::read(page, i);
         let version = read.version;
         if rules::version_wrong(version) {
             return i;
         }
         i += 1;
     }
-    n
+    count
 }
 
 // The first write whose kind is wrong; the count of writes where none is.
@@ -70,16 +70,16 @@ fn first_kind(page: &[u8]) -> usize
         (length (pageTx (now (page .entry)) .writes))
         ⌝ }
 {
-    let n = held::writes(page);
+    let count = content::writes(page);
     let mut i = 0;
-    while i < n {
-        let write = held::write(page, i);
+    while i < count {
+        let write = content::write(page, i);
         if rules::kind_wrong(write) {
             return i;
         }
         i += 1;
     }
-    n
+    count
 }
 
 // 1 to 5: the length, the check, the mark and the counts.
@@ -109,8 +109,8 @@ pub(crate) fn entry_fault(page: &[u8]) -> Finding
     requires { ⌜ Counted (now page) ⌝ }
     ensures { λ x. ⌜ finding x ≡ first (entryRows (pageTx (now (page .entry)))) ⌝ }
 {
-    let r = held::reads(page);
-    let w = held::writes(page);
+    let r = content::reads(page);
+    let w = content::writes(page);
     if first_key(page, layout::HEAD, layout::READ, r) < r {
         return refusals::found(refusals::READ_KEYS, 0);
     }
@@ -138,8 +138,8 @@ fn exactly(page: &[u8]) -> PageCheck
     if let Finding::Found { refusal } = found {
         return PageCheck::Bad { refusal };
     }
-    let reads = held::reads(page);
-    let writes = held::writes(page);
+    let reads = content::reads(page);
+    let writes = content::writes(page);
     let spare = layout::spare_at(reads, writes);
     if bytes::any_set(page, spare, layout::CHECK) {
         let refusal = Refusal {
@@ -160,8 +160,8 @@ pub fn check_page(page: &[u8]) -> PageCheck
 {
     if good::good(page) {
         return PageCheck::Good {
-            reads: held::reads(page) as u32,
-            writes: held::writes(page) as u32,
+            reads: content::reads(page) as u32,
+            writes: content::writes(page) as u32,
         };
     }
     exactly(page)

@@ -6,7 +6,7 @@ use crate::layout;
 use octets::bytes;
 use octets::weight;
 ghost use mathlib.Core.Path.{_≡_};
-ghost use Prim.Native.Nat.{_+_, _*_, _≤_};
+ghost use Prim.Native.Nat.{_+_, _*_, _^_, _≤_, _<_};
 ghost use lib.ListN.{length};
 ghost use lib.Seq.{sets};
 ghost use Rattle.lists.specs.Tables.{flat};
@@ -15,7 +15,7 @@ ghost use Rattle.ledger.specs.Tx.{valueTx, readOf, writeOf};
 ghost use Rattle.ledger.specs.Page.{readBytes, writeBytes, headBytes, laidOf, size};
 
 // The eight bytes of a read.
-fn put_read(p: &mut [u8], at: usize, x: Read)
+pub fn put_read(p: &mut [u8], at: usize, x: Read)
     requires { ⌜ at + 8 ≤ length (now p) ⌝ }
     ensures { λ _. ⌜ now (p .exit) ≡ sets (now (p .entry)) at (readBytes x) ⌝ }
 {
@@ -26,7 +26,7 @@ fn put_read(p: &mut [u8], at: usize, x: Read)
 }
 
 // The twelve bytes of a write.
-fn put_write(p: &mut [u8], at: usize, x: Write)
+pub fn put_write(p: &mut [u8], at: usize, x: Write)
     requires { ⌜ at + 12 ≤ length (now p) ⌝ }
     ensures { λ _. ⌜ now (p .exit) ≡ sets (now (p .entry)) at (writeBytes x) ⌝ }
 {
@@ -35,34 +35,35 @@ fn put_write(p: &mut [u8], at: usize, x: Write)
     bytes::put(p, at + 4, 8, bytes::bits(x.value));
 }
 
-// The bytes of the first `n` reads.
-fn put_reads(p: &mut [u8], at: usize, xs: [Read; layout::MOST_ENTRIES], n: usize)
-    requires { ⌜ (n ≤ 32) × (at + 8 * n ≤ length (now p)) ⌝ }
-    ensures { λ _. ⌜ now (p .exit) ≡ sets (now (p .entry)) at (flat n (λ i. readBytes (readOf xs i))) ⌝ }
+// The bytes of the first `count` reads.
+fn put_reads(p: &mut [u8], at: usize, xs: [Read; layout::MOST_ENTRIES], count: usize)
+    requires { ⌜ (count ≤ 32) × (at + 8 * count ≤ length (now p)) ⌝ }
+    ensures { λ _. ⌜ now (p .exit) ≡ sets (now (p .entry)) at (flat count (λ i. readBytes (readOf xs i))) ⌝ }
 {
     let mut i = 0;
-    while i < n {
+    while i < count {
         put_read(p, at + layout::READ * i, xs[i]);
         i += 1;
     }
 }
 
-// The bytes of the first `n` writes.
-fn put_writes(p: &mut [u8], at: usize, xs: [Write; layout::MOST_ENTRIES], n: usize)
-    requires { ⌜ (n ≤ 32) × (at + 12 * n ≤ length (now p)) ⌝ }
-    ensures { λ _. ⌜ now (p .exit) ≡ sets (now (p .entry)) at (flat n (λ i. writeBytes (writeOf xs i))) ⌝ }
+// The bytes of the first `count` writes.
+fn put_writes(p: &mut [u8], at: usize, xs: [Write; layout::MOST_ENTRIES], count: usize)
+    requires { ⌜ (count ≤ 32) × (at + 12 * count ≤ length (now p)) ⌝ }
+    ensures { λ _. ⌜ now (p .exit) ≡ sets (now (p .entry)) at (flat count (λ i. writeBytes (writeOf xs i))) ⌝ }
 {
     let mut i = 0;
-    while i < n {
+    while i < count {
         put_write(p, at + layout::WRITE * i, xs[i]);
         i += 1;
     }
 }
 
-// The first eight bytes.
-fn put_head(p: &mut [u8], r: usize, w: usize, ticket: u32)
+// The first eight bytes: the counts, and a ticket of 32 bits.
+pub fn put_head(p: &mut [u8], r: usize, w: usize, ticket: u32)
     requires { ⌜ (8 ≤ length (now p)) × (r ≤ 32) × (w ≤ 32) ⌝ }
     ensures { λ _. ⌜ now (p .exit) ≡ sets (now (p .entry)) 0 (headBytes r w ticket) ⌝ }
+    ensures { λ _. ⌜ ticket < 2 ^ 32 ⌝ }
 {
     p[0] = layout::MARK;
     p[layout::READ_COUNT] = r as u8;

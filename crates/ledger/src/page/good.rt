@@ -1,7 +1,7 @@
 // Whether a page has no fault: one question, which nearly every page answers with yes.
 use crate::layout;
+use crate::page::content;
 use crate::page::counts;
-use crate::page::held;
 use crate::rules;
 use octets::bytes;
 use octets::weight;
@@ -40,7 +40,7 @@ fn closed(page: &[u8]) -> bool
     requires { ⌜ Counted (now page) ⌝ }
     ensures { λ b. ⌜ b ≡ closed (now (page .entry)) ⌝ }
 {
-    let spare = layout::spare_at(held::reads(page), held::writes(page));
+    let spare = layout::spare_at(content::reads(page), content::writes(page));
     if bytes::any_set(page, spare, layout::CHECK) {
         return false;
     }
@@ -52,18 +52,18 @@ fn reads_good(page: &[u8]) -> bool
     requires { ⌜ Counted (now page) ⌝ }
     ensures { λ b. ⌜ b ≡ isClear (first (readsRows (pageTx (now (page .entry))))) ⌝ }
 {
-    let n = held::reads(page);
-    if n == 0 {
+    let count = content::reads(page);
+    if count == 0 {
         return true;
     }
-    let last = held::read(page, n - 1);
+    let last = content::read(page, count - 1);
     if last.key > layout::LAST_KEY {
         return false;
     }
     let mut floor: u32 = 0;
     let mut i = 0;
-    while i < n {
-        let read = held::read(page, i);
+    while i < count {
+        let read = content::read(page, i);
         let version = read.version;
         if (read.key as u32) < floor {
             return false;
@@ -82,18 +82,18 @@ fn writes_good(page: &[u8]) -> bool
     requires { ⌜ Counted (now page) ⌝ }
     ensures { λ b. ⌜ b ≡ isClear (first (writesRows (pageTx (now (page .entry))))) ⌝ }
 {
-    let n = held::writes(page);
-    if n == 0 {
+    let count = content::writes(page);
+    if count == 0 {
         return true;
     }
-    let last = held::write(page, n - 1);
+    let last = content::write(page, count - 1);
     if last.key > layout::LAST_KEY {
         return false;
     }
     let mut floor: u32 = 0;
     let mut i = 0;
-    while i < n {
-        let write = held::write(page, i);
+    while i < count {
+        let write = content::write(page, i);
         if (write.key as u32) < floor {
             return false;
         }

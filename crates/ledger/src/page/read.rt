@@ -7,7 +7,7 @@ use crate::Version;
 use crate::Write;
 use crate::layout;
 use crate::page::check;
-use crate::page::held;
+use crate::page::content;
 ghost use mathlib.Core.Path.{_≡_};
 ghost use mathlib.Core.List.{_++_};
 ghost use Prim.Native.Nat.{_-_};
@@ -36,11 +36,11 @@ fn all_reads(page: &[u8]) -> [Read; layout::MOST_ENTRIES]
         xs ≡ pageTx (now (page .entry)) .reads ++ replicate (32 - length (pageTx (now (page .entry)) .reads)) noRead
         ⌝ }
 {
-    let n = held::reads(page);
+    let count = content::reads(page);
     let mut xs = [NO_READ; layout::MOST_ENTRIES];
     let mut i = 0;
-    while i < n {
-        xs[i] = held::read(page, i);
+    while i < count {
+        xs[i] = content::read(page, i);
         i += 1;
     }
     xs
@@ -54,11 +54,11 @@ fn all_writes(page: &[u8]) -> [Write; layout::MOST_ENTRIES]
         ≡ pageTx (now (page .entry)) .writes ++ replicate (32 - length (pageTx (now (page .entry)) .writes)) noWrite
         ⌝ }
 {
-    let n = held::writes(page);
+    let count = content::writes(page);
     let mut xs = [NO_WRITE; layout::MOST_ENTRIES];
     let mut i = 0;
-    while i < n {
-        xs[i] = held::write(page, i);
+    while i < count {
+        xs[i] = content::write(page, i);
         i += 1;
     }
     xs
@@ -72,9 +72,9 @@ fn transaction(page: &[u8]) -> Transaction
     let reads = all_reads(page);
     let writes = all_writes(page);
     Transaction {
-        ticket: held::ticket(page),
-        r: held::reads(page),
-        w: held::writes(page),
+        ticket: content::ticket(page),
+        r: content::reads(page),
+        w: content::writes(page),
         reads,
         writes,
     }

@@ -7,10 +7,29 @@ use crate::page::fill;
 use refusals::Answer;
 use refusals::Finding;
 ghost use mathlib.Core.Path.{_≡_};
-ghost use Rattle.ledger.specs.Services.{put, writePage};
+ghost use Rattle.ledger.specs.Inner.{Counted};
+ghost use Rattle.ledger.specs.Services.{put, writeLaid, writePage};
+
+// Writes the bytes that are laid out, with their check, at a page index of a batch of any length: refusals 6 to 9, then 17.
+// The entries are checked where they are laid out, so that a refusal leaves the batch as it was.
+pub fn write_laid(batch: &mut [u8], index: usize, laid: &[u8]) -> Answer
+    requires { ⌜ Counted (now laid) ⌝ }
+    ensures { λ x. ⌜ put x (now (batch .exit)) ≡ writeLaid (now (batch .entry)) index (now (laid .entry)) ⌝ }
+{
+    let found = check::entry_fault(laid);
+    if let Finding::Found { refusal } = found {
+        return Answer::Refused { refusal };
+    }
+    if index >= batch.len() / layout::PAGE {
+        return refusals::refused(refusals::PAGE_INDEX, 0);
+    }
+    let start = index * layout::PAGE;
+    let end = start + layout::PAGE;
+    fill::fill(&mut batch[start..end], laid);
+    Answer::Count { count: 0 }
+}
 
 // Writes a page at a page index of a batch of any length: refusals 4 to 9, then 17.
-// The entries are laid out and checked apart, so that a refusal leaves the batch as it was.
 pub fn write_page(batch: &mut [u8], index: usize, t: Transaction) -> Answer
     ensures { λ x. ⌜ put x (now (batch .exit)) ≡ writePage (now (batch .entry)) index t ⌝ }
 {
@@ -20,15 +39,5 @@ pub fn write_page(batch: &mut [u8], index: usize, t: Transaction) -> Answer
     }
     let mut laid = [0u8; layout::PAGE];
     fill::lay(&mut laid, t);
-    let found = check::entry_fault(&laid);
-    if let Finding::Found { refusal } = found {
-        return Answer::Refused { refusal };
-    }
-    if index >= batch.len() / layout::PAGE {
-        return refusals::refused(refusals::PAGE_INDEX, 0);
-    }
-    let start = index * layout::PAGE;
-    let end = start + layout::PAGE;
-    fill::fill(&mut batch[start..end], &laid);
-    Answer::Count { count: 0 }
+    write_laid(batch, index, &laid)
 }

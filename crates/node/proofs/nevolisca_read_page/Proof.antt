@@ -1,46 +1,47 @@
--- `nevolisca_read_page`: the arrays filled, or the refusal as a word.
-use mathlib.Core.Path.{refl}
-use native.Mathlib.Omega.{arith}
+-- `nevolisca_read_page`: the arrays filled from the page, or the refusal as a word.
 use borrow.Author.Needs.{needs}
-use Rattle.node.proofs.Paged.{Room, page-room, page-good, page-bad}
+use native.Mathlib.Omega.{arith}
+use mathlib.Core.Path.{refl}
+use denote.Ref.{now}
+use Rattle.ledger.specs.Inner.{Counted}
+use Rattle.node.proofs.Paged.{page-counted, page-head, page-good, page-bad}
 use Rattle.node.proofs.nevolisca_read_page.Statement.{statement}
 use Rattle.node.proofs.nevolisca_read_page.Tie as tie
 
--- the transaction of a good page
-room : (c : tie.After-enum-told) → Room (c .before .before .before .read-page .result .transaction)
-room c = page-room _ _ (c .before .before .before .read-page .ensures) _ _ (c .enum-told .given .1)
+-- the page is good
+counted : (c : tie.After-known-told) → Counted (now (c .before .before .before .before .before .args .page))
+counted c = page-counted _ _ (c .before .before .before .check-page .ensures) _ _ (c .before .reads .given .1)
 
-read-page-requires : tie.Need-read-page-requires
-read-page-requires c κs = search needs
+check-page-requires : tie.Need-check-page-requires
+check-page-requires c κs = search needs
 
-enum-told : tie.Need-enum-told
-enum-told c = search needs
+enum-known-reads : tie.Need-enum-known-reads
+enum-known-reads c = search needs
 
-cast-t16 : tie.Need-cast-t16
-cast-t16 c = omega (arith, room (c .before))
-
-cast-t17 : tie.Need-cast-t17
-cast-t17 c = omega (arith, room (c .before .before))
+ticket-requires : tie.Need-ticket-requires
+ticket-requires c κs = omega (arith, counted c .whole)
 
 fill-reads-requires : tie.Need-fill-reads-requires
-fill-reads-requires c κs = search needs
+fill-reads-requires c κs = (counted (c .before .before .before .before .before .before .before .before), (refl, refl, refl))
 
 fill-writes-requires : tie.Need-fill-writes-requires
-fill-writes-requires c κs = search needs
+fill-writes-requires c κs =
+    (counted (c .before .before .before .before .before .before .before .before .before .before .before .before .before .before .before), (refl, refl, refl))
 
-enum-known-check : tie.Need-enum-known-check
-enum-known-check c = search needs
+enum-known-refusal : tie.Need-enum-known-refusal
+enum-known-refusal c = search needs
 
 refused-requires : tie.Need-refused-requires
 refused-requires c κs = search needs
 
 returns : tie.Need-returns
 returns c =
-    let f = c .before .before .before .before .before in
-    let e = f .before .before .before .before .before .before .before .before in
-    page-good _ _ (e .before .before .before .read-page .ensures) _ _ _ _ (e .enum-told .given .1)
+    let f = c .before .before .before .before .before .before .before in
+    let k = f .before .before .before .before .before .before .before .before in
+    let g = k .before .before in
+    page-good _ _ (g .before .before .check-page .ensures) _ _ (g .reads .given .1) _ _
     (record {
-      head = refl;
+      head = page-head _ _ (g .before .before .check-page .ensures) _ _ (g .reads .given .1) _ (k .ticket .ensures);
       read-keys = f .fill-reads .ensures .0;
       read-places = f .fill-reads .ensures .1 .0;
       read-blocks = f .fill-reads .ensures .1 .1;
@@ -52,19 +53,18 @@ returns c =
 returns-2 : tie.Need-returns-2
 returns-2 c =
     let k = c .before .before in
-    page-bad _ _ (k .before .before .before .read-page .ensures) _ _ _ (c .refused .ensures) (k .check .given .1)
+    page-bad _ _ (k .before .before .check-page .ensures) _ _ _ (c .refused .ensures) (k .refusal .given .1)
 
 pub nevolisca-read-page-spec : {M : Type 1} → statement M
 nevolisca-read-page-spec =
     tie.close
     (tie.spec
-    read-page-requires
-    enum-told
-    cast-t16
-    cast-t17
+    check-page-requires
+    enum-known-reads
+    ticket-requires
     fill-reads-requires
     fill-writes-requires
-    enum-known-check
+    enum-known-refusal
     refused-requires
     returns
     returns-2)

@@ -1,65 +1,95 @@
--- `fill_reads`: the entries so far stand in front.
-use mathlib.Core.Path.{_≡_}
-use Prim.Native.Nat.{_-_, _≤_}
+-- `fill_reads`: the fields of the reads so far stand in front.
+use mathlib.Core.Path.{_≡_, ap}
+use Prim.Native.Nat.{ℕ, _-_, _≤_, _<_}
 use native.Mathlib.Omega.{arith}
 use borrow.Author.Needs.{needs}
-use Rattle.ledger.specs.Tx.{readOf}
-use Rattle.node.proofs.Tabled.{Tabled, begins, turns, ends}
+use denote.Ref.{now}
+use lib.ListN.{length}
+use Rattle.ledger.specs.declared.Read.{Read}
+use Rattle.ledger.specs.Tx.{noRead, padded}
+use Rattle.ledger.specs.Page.{pageTx}
+use Rattle.ledger.proofs.OnPage.{count-reads}
+use Rattle.node.specs.Lent.{arraysOf}
+use Rattle.node.proofs.Filling.{Filling, begins, turns, ends}
 use Rattle.node.proofs.arrays.fill_reads.Statement.{statement}
 use Rattle.node.proofs.arrays.fill_reads.Tie as tie
 
+abbrev key : Read → ℕ
+key x = x .key
+
+abbrev place : Read → ℕ
+place x = x .version .place
+
+abbrev block : Read → ℕ
+block x = x .version .block
+
 abbrev Inv-loop : tie.InvT-loop
-Inv-loop keys₀ places₀ blocks₀ reads i₀ keys places blocks i = (i ≤ 32) × Tabled (λ j. readOf reads j .key) keys₀ i keys × Tabled (λ j. readOf reads j .version .place) places₀ i places × Tabled (λ j. readOf reads j .version .block) blocks₀ i blocks
+Inv-loop page keys₀ places₀ blocks₀ n i₀ keys places blocks i =
+    let xs = pageTx page .reads in
+    (i ≤ length xs) × Filling key noRead xs i keys × Filling place noRead xs i places × Filling block noRead xs i blocks
 
 abbrev μ-loop : tie.MeasureT-loop
-μ-loop keys₀ places₀ blocks₀ reads i₀ keys places blocks i = 32 - i
+μ-loop page keys₀ places₀ blocks₀ n i₀ keys places blocks i = n - i
 
--- at the end all 32 are passed
-done : (c : tie.After-loop Inv-loop μ-loop) → c .before .loop .i ≡ 32
-done c = omega arith
+-- from a turn to the function's beginning
+abbrev start : tie.At-loop Inv-loop μ-loop → tie.Start Inv-loop μ-loop
+start h = h .before .before .before .before .before .before
+
+-- a turn's index is one of a read, and of the arrays
+within : (c : tie.In-loop Inv-loop μ-loop) → c .before .loop .i < length (pageTx (now (start (c .before) .args .page)) .reads)
+within c = omega (arith, c .loop-test .taken, c .before .before .reads .ensures)
+
+room : (c : tie.In-loop Inv-loop μ-loop) → c .before .loop .i < 32
+room c = let s = start (c .before) in omega (arith, within c, count-reads (now (s .args .page)), s .pre .0 .few-reads)
+
+-- at the end all reads are passed
+done : (c : tie.After-loop Inv-loop μ-loop) → c .before .loop .i ≡ length (pageTx (now (start (c .before) .args .page)) .reads)
+done c = omega (arith, c .loop-test .left, c .before .before .reads .ensures, c .before .loop .inv .0)
+
+reads-requires : tie.Need-reads-requires Inv-loop μ-loop
+reads-requires c κs = c .before .before .before .before .pre .0
 
 loop-holds : tie.Need-loop-holds Inv-loop μ-loop
-loop-holds c = (omega arith, begins _ _, begins _ _, begins _ _)
+loop-holds c =
+    let z = c .before .before .before .before .before .pre .1 in
+    (omega arith, begins key noRead _ _ (z .0), begins place noRead _ _ (z .1), begins block noRead _ _ (z .2))
 
-mul-x : tie.Need-mul-x Inv-loop μ-loop
-mul-x c = search needs
-
-array-copy-out-x : tie.Need-array-copy-out-x Inv-loop μ-loop
-array-copy-out-x c = search needs
+read-requires : tie.Need-read-requires Inv-loop μ-loop
+read-requires c κs = (start (c .before) .pre .0, within c)
 
 mul-keys : tie.Need-mul-keys Inv-loop μ-loop
-mul-keys c = search needs
+mul-keys c = omega (arith, room (c .before))
 
 slice-write-keys : tie.Need-slice-write-keys Inv-loop μ-loop
-slice-write-keys c = search needs
+slice-write-keys c = omega (arith, room (c .before), c .before .before .loop .inv .1 .long)
 
 mul-places : tie.Need-mul-places Inv-loop μ-loop
-mul-places c = search needs
+mul-places c = omega (arith, room (c .before))
 
 slice-write-places : tie.Need-slice-write-places Inv-loop μ-loop
-slice-write-places c = search needs
+slice-write-places c = omega (arith, room (c .before), c .before .before .loop .inv .2 .long)
 
 mul-blocks : tie.Need-mul-blocks Inv-loop μ-loop
-mul-blocks c = search needs
+mul-blocks c = omega (arith, room (c .before))
 
 slice-write-blocks : tie.Need-slice-write-blocks Inv-loop μ-loop
-slice-write-blocks c = search needs
+slice-write-blocks c = omega (arith, room (c .before), c .before .before .loop .inv .3 .long)
 
 add-i : tie.Need-add-i Inv-loop μ-loop
-add-i c = search needs
+add-i c = omega (arith, room (c .before))
 
 loop-less : tie.Need-loop-less Inv-loop μ-loop
 loop-less c = search needs
 
 loop-again : tie.Need-loop-again Inv-loop μ-loop
 loop-again c =
-    let l = c .before .before in
-    let p = l .before .pre in
-    let t = c .before .loop-test .taken in (
-      omega arith,
-      turns _ _ _ _ (l .loop .inv .1) (omega (arith, p .0, t)),
-      turns _ _ _ _ (l .loop .inv .2) (omega (arith, p .1, t)),
-      turns _ _ _ _ (l .loop .inv .3) (omega (arith, p .2, t)),
+    let t = c .before in
+    let v = t .before .loop .inv in
+    let e = c .read .ensures in (
+      omega (arith, within t),
+      turns key noRead _ _ _ _ (ap key e) (v .1) (within t) (room t),
+      turns place noRead _ _ _ _ (ap place e) (v .2) (within t) (room t),
+      turns block noRead _ _ _ _ (ap block e) (v .3) (within t) (room t),
     )
 
 same-length : tie.Need-same-length Inv-loop μ-loop
@@ -72,11 +102,11 @@ same-length-3 : tie.Need-same-length-3 Inv-loop μ-loop
 same-length-3 c = search needs
 
 returns : tie.Need-returns Inv-loop μ-loop
+unfolding arraysOf padded
 returns c =
-    let l = c .before in
-    let p = l .before .pre in (
-      ends _ _ 32 _ _ (l .loop .inv .1) (done c) (p .0),
-      (ends _ _ 32 _ _ (l .loop .inv .2) (done c) (p .1), ends _ _ 32 _ _ (l .loop .inv .3) (done c) (p .2)),
+    let v = c .before .loop .inv in (
+      ends key noRead _ _ _ (v .1) (done c),
+      (ends place noRead _ _ _ (v .2) (done c), ends block noRead _ _ _ (v .3) (done c)),
     )
 
 pub fill-reads-spec : {M : Type 1} → statement M
@@ -85,9 +115,9 @@ fill-reads-spec =
     (tie.spec
     Inv-loop
     μ-loop
+    reads-requires
     loop-holds
-    mul-x
-    array-copy-out-x
+    read-requires
     mul-keys
     slice-write-keys
     mul-places

@@ -21,7 +21,7 @@ abbrev μ-loop : tie.MeasureT-loop
 within : (c : tie.In-loop Inv-loop μ-loop) → let a = c .before .before .before .args in a .from + a .step * c .before .loop .i + 2 ≤ length (now (a .page))
 within c =
     let s = c .before .before .before in
-    omega (arith, key-within (s .args .step) (c .before .loop .i) (s .args .n) (s .pre .0) (c .loop-test .taken), s .pre .1)
+    omega (arith, key-within (s .args .step) (c .before .loop .i) (s .args .count) (s .pre .0) (c .loop-test .taken), s .pre .1)
 
 loop-holds : tie.Need-loop-holds Inv-loop μ-loop
 loop-holds c = turned-begins _ _

@@ -35,7 +35,7 @@ returns c =
     let head = reads .before .before .before .before in
     let s = head .before .before .before .before .before in
     let t = s .args .t in
-    rw (writes .put-writes .ensures, start .writes-at .ensures, reads .put-reads .ensures, head .put-head .ensures)
+    rw (writes .put-writes .ensures, start .writes-at .ensures, reads .put-reads .ensures, head .put-head .ensures .0)
     (stored (t .r) (t .w) (t .ticket) _ _ (λ i. length-read (readOf (t .reads) i)) (λ i. length-write (writeOf (t .writes) i)) (now (s .args .p))
     ∙ ap (sets (now (s .args .p)) 0) (laid-value t (omega (arith, owned-reads t _ (s .good .1 .0), s .pre)) (omega (arith, owned-writes t _ (s .good .1 .0), s .pre))))
 

@@ -2,8 +2,8 @@
 use mathlib.Core.Path.{sym}
 use borrow.Author.Needs.{needs}
 use Rattle.ledger.proofs.OnPage.{count-writes}
-use Rattle.ledger.proofs.page.held.writes.Statement.{statement}
-use Rattle.ledger.proofs.page.held.writes.Tie as tie
+use Rattle.ledger.proofs.page.content.writes.Statement.{statement}
+use Rattle.ledger.proofs.page.content.writes.Tie as tie
 
 shared-slice-read-result : tie.Need-shared-slice-read-result
 shared-slice-read-result c = search needs

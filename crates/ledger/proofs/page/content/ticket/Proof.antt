@@ -1,8 +1,8 @@
 -- `ticket`: the four bytes of the ticket.
 use borrow.Author.Needs.{needs}
 use Rattle.ledger.specs.Page.{pageTx}
-use Rattle.ledger.proofs.page.held.ticket.Statement.{statement}
-use Rattle.ledger.proofs.page.held.ticket.Tie as tie
+use Rattle.ledger.proofs.page.content.ticket.Statement.{statement}
+use Rattle.ledger.proofs.page.content.ticket.Tie as tie
 
 le4-requires : tie.Need-le4-requires
 le4-requires c κs = search needs

@@ -2,8 +2,8 @@
 use mathlib.Core.Path.{sym}
 use borrow.Author.Needs.{needs}
 use Rattle.ledger.proofs.OnPage.{count-reads}
-use Rattle.ledger.proofs.page.held.reads.Statement.{statement}
-use Rattle.ledger.proofs.page.held.reads.Tie as tie
+use Rattle.ledger.proofs.page.content.reads.Statement.{statement}
+use Rattle.ledger.proofs.page.content.reads.Tie as tie
 
 shared-slice-read-result : tie.Need-shared-slice-read-result
 shared-slice-read-result c = search needs

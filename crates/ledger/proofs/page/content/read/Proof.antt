@@ -5,8 +5,8 @@ use borrow.Author.Needs.{needs}
 use denote.Ref.{now}
 use Rattle.ledger.specs.Page.{readCount}
 use Rattle.ledger.proofs.OnPage.{count-reads, read-is}
-use Rattle.ledger.proofs.page.held.read.Statement.{statement}
-use Rattle.ledger.proofs.page.held.read.Tie as tie
+use Rattle.ledger.proofs.page.content.read.Statement.{statement}
+use Rattle.ledger.proofs.page.content.read.Tie as tie
 
 -- the index is below the count on the page
 below : (c : tie.Start) → c .args .i < readCount (now (c .args .page))

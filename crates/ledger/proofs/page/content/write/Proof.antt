@@ -6,8 +6,8 @@ use borrow.Author.Needs.{needs}
 use denote.Ref.{now}
 use Rattle.ledger.specs.Page.{readCount, writeCount}
 use Rattle.ledger.proofs.OnPage.{count-reads, count-writes, write-from}
-use Rattle.ledger.proofs.page.held.write.Statement.{statement}
-use Rattle.ledger.proofs.page.held.write.Tie as tie
+use Rattle.ledger.proofs.page.content.write.Statement.{statement}
+use Rattle.ledger.proofs.page.content.write.Tie as tie
 
 -- the index is below the count on the page
 below : (c : tie.Start) → c .args .i < writeCount (now (c .args .page))

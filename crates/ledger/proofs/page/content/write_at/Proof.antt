@@ -2,8 +2,8 @@
 use borrow.Author.Needs.{needs}
 use mir.Syntax.{w64}
 use mir.Facts.{toZ-ofZ}
-use Rattle.ledger.proofs.page.held.write_at.Statement.{statement}
-use Rattle.ledger.proofs.page.held.write_at.Tie as tie
+use Rattle.ledger.proofs.page.content.write_at.Statement.{statement}
+use Rattle.ledger.proofs.page.content.write_at.Tie as tie
 
 le2-requires : tie.Need-le2-requires
 le2-requires c κs = search needs

@@ -24,9 +24,9 @@ pub fn fill_reads(page: &[u8], keys: &mut [u16], places: &mut [u16], blocks: &mu
     ensures { λ _. ⌜ now (places .exit) ≡ arraysOn (now (page .entry)) .readPlaces ⌝ }
     ensures { λ _. ⌜ now (blocks .exit) ≡ arraysOn (now (page .entry)) .readBlocks ⌝ }
 {
-    let n = content::reads(page);
+    let count = content::reads(page);
     let mut i = 0;
-    while i < n {
+    while i < count {
         let x = content::read(page, i);
         keys[i] = x.key;
         places[i] = x.version.place;
@@ -43,10 +43,10 @@ pub fn fill_writes(page: &[u8], keys: &mut [u16], kinds: &mut [u16], values: &mu
     ensures { λ _. ⌜ now (kinds .exit) ≡ arraysOn (now (page .entry)) .writeKinds ⌝ }
     ensures { λ _. ⌜ now (values .exit) ≡ arraysOn (now (page .entry)) .writeValues ⌝ }
 {
-    let n = content::writes(page);
+    let count = content::writes(page);
     let from = layout::writes_at(content::reads(page));
     let mut i = 0;
-    while i < n {
+    while i < count {
         let x = content::write_at(page, from + layout::WRITE * i);
         keys[i] = x.key;
         kinds[i] = x.kind;

@@ -84,11 +84,11 @@ module _ {A : Type 0} (before : A → A → Bool) where
   cyclic-cycle ts = (found, λ c. any-in (λ t. joined before ts t t) ts (c .member) (chain-joined (c .chain)))
     where
       found : T (any (λ t. joined before ts t t) ts) → Cycle before ts
-      found t = let w = any-out (λ t. joined before ts t t) ts t in record { at = w .0; member = w .1; chain = joined-chain ts (w .0) (w .0) (w .2) }
+      found t = let w = any-out (λ t. joined before ts t t) ts t in record { root = w .0; member = w .1; chain = joined-chain ts (w .0) (w .0) (w .2) }
 
   -- a cycle among some is one among more
   pub cycle-mono : {ks ls : List A} → ((x : A) → x ∈ ks → x ∈ ls) → Cycle before ks → Cycle before ls
-  cycle-mono f c = record { at = c .at; member = f (c .at) (c .member); chain = chain-mono f (c .chain) }
+  cycle-mono f c = record { root = c .root; member = f (c .root) (c .member); chain = chain-mono f (c .chain) }
 
   -- said of places: no one that stands later must stand before b
   pub ordered-means : (os : List A) → T (ordered before os) ↔ ((xs : List A) (b : A) (ys : List A) → os ≡ xs ++ b ∷ ys → (a : A) → a ∈ ys → T (not (before a b)))
@@ -161,14 +161,14 @@ module _ {A : Type 0} (before : A → A → Bool) where
         first : T (all (λ a. not (before a b)) os)
         first = and-left (all (λ a. not (before a b)) os) _ t
 
-        go : (c .at) ∈ (b ∷ os) → (Cycle before os → ⊥) → ⊥
-        go (List·Memᴰ·head e) f = no-chain-to-first b os first (c .member) (subst (λ (x : A). Chain before (b ∷ os) x (c .at)) e (c .chain))
-        go (List·Memᴰ·tail m) f = f (record { at = c .at; member = m; chain = past-first b os first (c .member) (c .chain) })
+        go : (c .root) ∈ (b ∷ os) → (Cycle before os → ⊥) → ⊥
+        go (List·Memᴰ·head e) f = no-chain-to-first b os first (c .member) (subst (λ (x : A). Chain before (b ∷ os) x (c .root)) e (c .chain))
+        go (List·Memᴰ·tail m) f = f (record { root = c .root; member = m; chain = past-first b os first (c .member) (c .chain) })
 
   -- where there is no cycle, some one has no one that leads to it
   module _ (ts : List A) (acyclic : Cycle before ts → ⊥) where
     not-self : (x t : A) → t ∈ ts → x ≡ t → T (joined before ts x t) → ⊥
-    not-self x t m e j = acyclic (record { at = t; member = m; chain = joined-chain ts t t (subst (λ (y : A). T (joined before ts y t)) e j) })
+    not-self x t m e j = acyclic (record { root = t; member = m; chain = joined-chain ts t t (subst (λ (y : A). T (joined before ts y t)) e j) })
 
     pub source :
         (t : A) (us : List A) →
@@ -221,7 +221,7 @@ module _ {A : Type 0} (before : A → A → Bool) where
   cyclic-new k ks f = (λ t. there (cyclic-cycle (k ∷ ks) .0 t), λ t. cyclic-cycle (k ∷ ks) .1 (back t))
     where
       back : T (joined before ks k k) → Cycle before (k ∷ ks)
-      back t = record { at = k; member = List·Memᴰ·head refl; chain = chain-mono (λ x m. List·Memᴰ·tail m) (joined-chain ks k k t) }
+      back t = record { root = k; member = List·Memᴰ·head refl; chain = chain-mono (λ x m. List·Memᴰ·tail m) (joined-chain ks k k t) }
 
       there : Cycle before (k ∷ ks) → T (joined before ks k k)
       there c =
@@ -229,9 +229,9 @@ module _ {A : Type 0} (before : A → A → Bool) where
           (λ e. out-of k ks k (subst (λ (x : A). T (joined before (k ∷ ks) x x)) e (chain-joined (c .chain))))
           (λ m.
           ⊎-elim
-          (λ t. absurd (f (record { at = c .at; member = m; chain = joined-chain ks (c .at) (c .at) t })))
-          (λ t. joined-trans ks k (c .at) k m (t .1) (t .0))
-          (joined-split k ks (c .at) (c .at) (chain-joined (c .chain))))
+          (λ t. absurd (f (record { root = c .root; member = m; chain = joined-chain ks (c .root) (c .root) t })))
+          (λ t. joined-trans ks k (c .root) k m (t .1) (t .0))
+          (joined-split k ks (c .root) (c .root) (chain-joined (c .chain))))
           (List·Memᴰ·cases-cons (c .member))
 
   -- lists with the same members have a cycle together

@@ -21,9 +21,9 @@ module _ {A : Type 0} (before : A → A → Bool) where
 
   -- "a cycle" of "the demands among" ts: a chain from one of them back to it
   pub record Cycle (ts : List A) : Type 0 where
-    pub at : A
-    pub member : at ∈ ts
-    pub chain : Chain ts at at
+    pub root : A
+    pub member : root ∈ ts
+    pub chain : Chain ts root root
 
   -- each stands behind all that must stand before it: no later one must stand before an earlier one
   unfoldable pub ordered : List A → Bool

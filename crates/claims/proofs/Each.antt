@@ -9,7 +9,7 @@ use Rattle.refusals.specs.Outcome.{Outcome, refuses}
 use Rattle.refusals.specs.Fault.{first, rowsFrom, moved}
 use Rattle.tonnage.specs.Text.{digits, widthIn, width, textOf}
 use Rattle.tonnage.specs.Services.{writeText}
-use Rattle.tonnage.specs.Services.{writeRows as textRows}
+use Rattle.tonnage.specs.Services.{textRows}
 use Rattle.lists.specs.Tables.{flat, tab}
 use Rattle.octets.specs.Bytes.{field, weighed, le}
 use Rattle.ledger.specs.Version.{at}

@@ -19,7 +19,7 @@ use Rattle.refusals.proofs.Answers.{apart, value}
 use Rattle.tonnage.specs.declared.Reading.the-variants.{Unread}
 use Rattle.tonnage.specs.Text.{digits, widthIn, width, textOf}
 use Rattle.tonnage.specs.Services.{read, writeText}
-use Rattle.tonnage.specs.Services.{WrittenText, writeRows as textRows}
+use Rattle.tonnage.specs.Services.{WrittenText, textRows}
 use Rattle.octets.specs.Bytes.{weighed, le, field}
 use Rattle.lists.specs.Search.{seek, firstIn}
 use Rattle.ledger.specs.declared.PageCheck.the-variants.{Bad}

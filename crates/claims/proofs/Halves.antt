@@ -16,7 +16,7 @@ use Rattle.refusals.specs.Fault.{first}
 use Rattle.refusals.proofs.Rows.{judged-gives}
 use Rattle.tonnage.specs.Text.{textOf}
 use Rattle.tonnage.specs.Services.{in64, readText, writeText}
-use Rattle.tonnage.specs.Services.{writeRows as textRows}
+use Rattle.tonnage.specs.Services.{textRows}
 use Rattle.tonnage.proofs.RoundTrip.{longest}
 use Rattle.ledger.specs.declared.Transaction.{Transaction}
 use Rattle.ledger.specs.Services.{Counts, readPage, writeFault, writePage}

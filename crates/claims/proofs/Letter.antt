@@ -26,7 +26,7 @@ use Rattle.planning.proofs.Opened.{plan-open}
 use Rattle.claims.specs.Cases.{number, batchOf}
 use Rattle.claims.specs.Serial.{run}
 use Rattle.claims.specs.Letter.{booked, correction, plainCorrection, settlement, closing}
-use Rattle.claims.specs.Letter.{planned, settled, Becomes, by, Letter}
+use Rattle.claims.specs.Letter.{letterPlan, letterCommit, Becomes, by, Letter}
 use Rattle.claims.proofs.Running.{onPages}
 use Rattle.claims.proofs.Planning.{sequence-perm}
 use Rattle.claims.proofs.Demand3.{third}
@@ -64,12 +64,12 @@ from-sheet xs k vs os weight sum few two long s =
     let c =
     open-over xs booked number (replicate 2 9) (replicate 2 9) (replicate 1024 9) (s .sound) few booked-rows (s .room)
     (s .clean) in
-    let e : planned xs ≡ made xs = sym (plan-open b booked number (replicate 2 9) (replicate 2 9) (replicate 1024 9) c) in
+    let e : letterPlan xs ≡ made xs = sym (plan-open b booked number (replicate 2 9) (replicate 2 9) (replicate 1024 9) c) in
     let t =
     third b booked number (sequence (versions booked) (txAt b) (pages b)) (replicate 2 9) (replicate 2 9) (replicate 1024 9) k
     (sequence-perm (versions booked) (txAt b) (pages b)) c (s .count) in
     let h = ap (λ (l : List ℕ). length l) (s .order-is) in
-    let done : settled xs k ≡ commitBatch (gathered b (take k (made xs .order))) booked number (replicate 2 9) =
+    let done : letterCommit xs k ≡ commitBatch (gathered b (take k (made xs .order))) booked number (replicate 2 9) =
     ap (λ (q : Plans). commitBatch (take (512 * k) (q .out)) booked number (replicate 2 9)) e
     ∙ ap (λ (l : List ℕ). commitBatch l booked number (replicate 2 9)) (t .out-pages) in
     let runs = done ∙ t .third .commits (onPages (txAt b)) (λ i m. refl) (replicate 2 9) (omega arith) in

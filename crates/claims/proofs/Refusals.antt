@@ -14,7 +14,7 @@ use Rattle.lists.proofs.Tests.{and-left, and-right, of-true, or-cases}
 use Rattle.refusals.specs.Fault.{first, Given, inTurn, eachRow}
 use Rattle.refusals.proofs.Rows.{judged-given, refused-after, allow, allow-append, allow-turn, allow-each, allow-moved, given-allowed, parted}
 use Rattle.tonnage.specs.Services.{readRows, readText, writeText}
-use Rattle.tonnage.specs.Services.{writeRows as textRows}
+use Rattle.tonnage.specs.Services.{textRows}
 use Rattle.ledger.specs.declared.Transaction.{Transaction}
 use Rattle.ledger.specs.Page.{size, pageAt, countRows, entryRows, headRows, wholeRows, pageRows}
 use Rattle.ledger.specs.Services.{checkPage, readPage, writeRows, writeFault, writePage}

@@ -15,7 +15,7 @@ use Rattle.refusals.specs.Fault.{first}
 use Rattle.lists.specs.Search.{seek, firstIn}
 use Rattle.tonnage.specs.Text.{follow, magnitude, laid, form, figure, textOf}
 use Rattle.tonnage.specs.Grammar.{Tonnage}
-use Rattle.tonnage.specs.Services.{in64, readRows, readText, WrittenText, writeRows, writeText}
+use Rattle.tonnage.specs.Services.{in64, readRows, readText, WrittenText, textRows, writeText}
 use Rattle.tonnage.proofs.RoundTrip.{accepted-written, written-accepted, written}
 use Rattle.tonnage.proofs.Sentence.{grammar-form}
 use Rattle.lists.specs.Ascii.{ascii}
@@ -93,7 +93,7 @@ module _ (buffer : List ℕ) (z : ℤ) where
 
   -- what is written, by the test of the length
   done : (b : Bool) → ltb (length buffer) (length (textOf z)) ≡ b → writeText buffer z ≡ cond b unfit fit
-  unfolding writeText writeRows first
+  unfolding writeText textRows first
   done true h = rw h
   done false h = rw h
 

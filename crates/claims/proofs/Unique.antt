@@ -11,7 +11,7 @@ use Rattle.ledger.specs.declared.Transaction.{Transaction}
 use Rattle.ledger.specs.declared.PageCheck.{PageCheck}
 use Rattle.ledger.specs.declared.PageCheck.the-variants.{Good, Bad}
 use Rattle.ledger.specs.declared.PageRead.{PageRead}
-use Rattle.ledger.specs.Services.{Counts, checked, checkPage, Taken, taken, readPage, WrittenPage, put, writePage}
+use Rattle.ledger.specs.Services.{Counts, checked, checkPage, Taken, taken, readPage, WrittenPage, wrotePage, writePage}
 use Rattle.ledger.specs.State.{State}
 use Rattle.ledger.specs.Commit.{Commits, committed, commitBatch}
 use Rattle.planning.specs.Plan.{Plans, planned, planBatch}
@@ -59,7 +59,7 @@ read-page page x y h k =
 -- writing a page: the answer, and the lent batch
 pub write-page :
     (batch : List ℕ) (index : ℕ) (t : Transaction) (x y : Answer) (b c : List ℕ) →
-    put x b ≡ writePage batch index t → put y c ≡ writePage batch index t → (x ≡ y) × (b ≡ c)
+    wrotePage x b ≡ writePage batch index t → wrotePage y c ≡ writePage batch index t → (x ≡ y) × (b ≡ c)
 write-page batch index t x y b c h k =
     let e = h ∙ sym k in
     (one-answer x y (ap (λ (w : WrittenPage). w .answer) e), ap (λ (w : WrittenPage). w .batch) e)

@@ -31,7 +31,7 @@ use Rattle.report.specs.Listing.{header, placeText, pageLine, stateLine, keyLin
 use Rattle.report.specs.Program.{startNumber, start, shown}
 use Rattle.claims.specs.Cases.{batchOf}
 use Rattle.claims.specs.Serial.{run}
-use Rattle.claims.specs.Shown.{five, correction, nineLines, letterLines}
+use Rattle.claims.specs.Shown.{five, letterBatch, nineLines, letterLines}
 use Rattle.planning.proofs.Words.{writes-key}
 use Rattle.claims.proofs.Running.{onPages, run-other}
 use Rattle.claims.proofs.Shown.{clearPlan, shown-run}
@@ -113,7 +113,7 @@ record Sheet (xs : List Tx) (k : ℕ) (text : List ℕ) : Type 0 where
 from-sheet : (xs : List Tx) (k : ℕ) (text : List ℕ) → length xs ≤ 64 → k ≤ 64 → Sheet xs k text → shown (batchOf xs) start (replicate 65536 0) ≡ text
 from-sheet xs k text h l s = shown-few (batchOf xs) k 10 1014 refl (open-gate xs (s .sound) h (s .clean)) (s .count) l (s .below) ∙ s .reads
 
-sheets : Sheet five 3 nineLines × Sheet correction 2 letterLines
+sheets : Sheet five 3 nineLines × Sheet letterBatch 2 letterLines
 unfolding start batchOf firstIn seek firstOf rowsFrom countRows entryRows floorOf pageOf bodyOf weighed le flat tab pageTx field entry store passes write run
     joined cyclic admit lowestTicket without arrange byTicket free schedule keysRead keysWritten reader before sequence kept verdict order plans
     header placeText pageLine stateLine keyLine digits widthIn width textOf ascii
@@ -127,5 +127,5 @@ pub nine-lines : shown (batchOf five) start (replicate 65536 0) ≡ nineLines
 nine-lines = from-sheet five 3 nineLines (omega arith) (omega arith) (sheets .0)
 
 -- the customer's letter: the correction is kept and shown
-pub letter : shown (batchOf correction) start (replicate 65536 0) ≡ letterLines
-letter = from-sheet correction 2 letterLines (omega arith) (omega arith) (sheets .1)
+pub letter : shown (batchOf letterBatch) start (replicate 65536 0) ≡ letterLines
+letter = from-sheet letterBatch 2 letterLines (omega arith) (omega arith) (sheets .1)

@@ -43,20 +43,20 @@ abbrev pub closing : ℕ → Tx
 closing t = tx t (old ∷ []) (put 4 0 ∷ put 5 684000 ∷ [])
 
 -- what plan leaves, and the commit of the kept pages under the batch's number
-abbrev pub planned : List Tx → Plans
-planned xs = planBatch (batchOf xs) booked number (replicate 2 9) (replicate 2 9) (replicate 1024 9)
+abbrev pub letterPlan : List Tx → Plans
+letterPlan xs = planBatch (batchOf xs) booked number (replicate 2 9) (replicate 2 9) (replicate 1024 9)
 
-abbrev pub settled : List Tx → ℕ → Commits
-settled xs k = commitBatch (take (512 * k) (planned xs .out)) booked number (replicate 2 9)
+abbrev pub letterCommit : List Tx → ℕ → Commits
+letterCommit xs k = commitBatch (take (512 * k) (letterPlan xs .out)) booked number (replicate 2 9)
 
 -- what becomes of a batch: how many are kept, the verdicts, the kept in their order, and the weight and the sum afterwards
 pub record Becomes (xs : List Tx) (k : ℕ) (verdicts order : List ℕ) (weight sum : Entry) : Type 0 where
-  pub count : planned xs .answer ≡ gives k
-  pub verdicts-are : planned xs .verdicts ≡ verdicts
-  pub order-is : take k (planned xs .order) ≡ order
-  pub none-fails : settled xs k .answer ≡ gives k
-  pub weight-is : entry (settled xs k .state) 4 ≡ weight
-  pub sum-is : entry (settled xs k .state) 5 ≡ sum
+  pub count : letterPlan xs .answer ≡ gives k
+  pub verdicts-are : letterPlan xs .verdicts ≡ verdicts
+  pub order-is : take k (letterPlan xs .order) ≡ order
+  pub none-fails : letterCommit xs k .answer ≡ gives k
+  pub weight-is : entry (letterCommit xs k .state) 4 ≡ weight
+  pub sum-is : entry (letterCommit xs k .state) 5 ≡ sum
 
 -- a figure written by the page at place p of the out batch
 abbrev pub by : ℕ → ℕ → Entry

@@ -14,7 +14,7 @@ use Rattle.ledger.specs.declared.Read.{Read}
 use Rattle.ledger.specs.declared.Write.{Write}
 use Rattle.ledger.specs.declared.Transaction.{Transaction}
 use Rattle.ledger.specs.declared.PageRead.{PageRead}
-use Rattle.ledger.specs.Services.{taken, readPage, put, writePage}
+use Rattle.ledger.specs.Services.{taken, readPage, wrotePage, writePage}
 use Rattle.ledger.specs.State.{State}
 use Rattle.ledger.specs.Commit.{committed, commitBatch}
 use Rattle.planning.specs.Plan.{planned, planBatch}
@@ -65,7 +65,7 @@ pub record PageLent : Type 0 where
   pub index : ℕ
   pub transaction : Transaction
 
-pub record PageLeft : Type 0 where
+pub record PageDone : Type 0 where
   pub answer : Answer
   pub batch : List ℕ
 
@@ -77,7 +77,7 @@ pub record PlanLent : Type 0 where
   pub order : List ℕ
   pub out : List ℕ
 
-pub record PlanLeft : Type 0 where
+pub record PlanDone : Type 0 where
   pub answer : Answer
   pub verdicts : List ℕ
   pub order : List ℕ
@@ -89,7 +89,7 @@ pub record CommitLent : Type 0 where
   pub number : ℕ
   pub verdicts : List ℕ
 
-pub record CommitLeft : Type 0 where
+pub record CommitDone : Type 0 where
   pub answer : Answer
   pub state : State
   pub verdicts : List ℕ
@@ -98,7 +98,7 @@ pub record TextLent : Type 0 where
   pub buffer : List ℕ
   pub figure : ℤ
 
-pub record TextLeft : Type 0 where
+pub record TextDone : Type 0 where
   pub answer : Answer
   pub buffer : List ℕ
 
@@ -127,19 +127,19 @@ PageReader = Program {Out = PageRead} bytes taken readPage
 
 abbrev pub PageWriter : Type 0
 PageWriter =
-    Program {Out = PageLeft} pageFits
-    (λ y. put (y .answer) (y .batch))
+    Program {Out = PageDone} pageFits
+    (λ y. wrotePage (y .answer) (y .batch))
     (λ x. writePage (x .batch) (x .index) (x .transaction))
 
 abbrev pub Planner : Type 0
 Planner =
-    Program {Out = PlanLeft} planFits
+    Program {Out = PlanDone} planFits
     (λ y. planned (y .answer) (y .verdicts) (y .order) (y .out))
     (λ x. planBatch (x .batch) (x .state) (x .number) (x .verdicts) (x .order) (x .out))
 
 abbrev pub Committer : Type 0
 Committer =
-    Program {Out = CommitLeft} commitFits
+    Program {Out = CommitDone} commitFits
     (λ y. committed (y .answer) (y .state) (y .verdicts))
     (λ x. commitBatch (x .batch) (x .state) (x .number) (x .verdicts))
 
@@ -148,6 +148,6 @@ TextReader = Program {Out = Reading} bytes read readText
 
 abbrev pub TextWriter : Type 0
 TextWriter =
-    Program {Out = TextLeft} textFits
+    Program {Out = TextDone} textFits
     (λ y. wrote (y .answer) (y .buffer))
     (λ x. writeText (x .buffer) (x .figure))

@@ -14,7 +14,8 @@ use Rattle.claims.specs.Cases.{tx, absentRead, put}
 -- a text for an input is the whole listing, or the refusal's line
 abbrev pub Whole : List ℕ → List ℕ → Type 0
 Whole input text =
-    ((k : ℕ) → plan input start .answer ≡ gives k → text ≡ listing startNumber input (plan input start .verdicts) (plan input start .order) k (stateAfter input start k))
+    ((k : ℕ) → plan input start .answer ≡ gives k →
+    text ≡ listing startNumber input (plan input start .verdicts) (plan input start .order) k (stateAfter input start k))
     × ((number place : ℕ) → plan input start .answer ≡ refuses number place → text ≡ refusal number place)
 
 -- "Five pages: ticket 10 puts 68400 on 5; 20 reads 5 absent, puts 100 on 6; 30 reads 6 absent, puts -50 on 7; 40 reads 7 absent, puts 1 on 5;
@@ -29,8 +30,8 @@ five =
     ∷ []
 
 -- the customer's letter: a correction shares its batch with settlements that had read the old weight (worked by hand in tools/pages.py)
-abbrev pub correction : List Tx
-correction =
+abbrev pub letterBatch : List Tx
+letterBatch =
     tx 70 [] (put 4 68400 ∷ [])
     ∷ tx 60 (absentRead 4 ∷ []) (put 3 684000 ∷ [])
     ∷ tx 80 (absentRead 3 ∷ absentRead 4 ∷ []) (put 4 1000 ∷ put 9 5000 ∷ [])

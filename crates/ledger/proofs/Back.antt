@@ -17,8 +17,8 @@ use Rattle.lists.specs.Tables.{tab, flat}
 use Rattle.octets.specs.Bytes.{field, le, weighed, set?, Small}
 use Rattle.ledger.specs.Tx.{Tx, noRead, noWrite, readOf, writeOf, valueTx, ReadFits, WriteFits, TransactionFits}
 use Rattle.ledger.specs.Page.{readCount, writeCount, size, readAt, writeAt, readBytes, writeBytes, laidOf, bodyOf, pageOf, pageTx, countRows, headRows, entryRows, spareRow, pageFault}
-use Rattle.ledger.specs.Inner.{Counted}
-use Rattle.ledger.specs.Services.{laidRows, writeRows, writePage, writeLaid}
+use Rattle.ledger.specs.Inner.{Counted, writeLaid}
+use Rattle.ledger.specs.Services.{laidRows, writeRows, writePage}
 use Rattle.octets.proofs.Numbers.{check-most}
 use Rattle.octets.proofs.Stored.{length-le}
 use Rattle.lists.proofs.Tables.{tab-same, tab-list}

@@ -24,9 +24,9 @@ use Rattle.ledger.specs.declared.Stamp.{Stamp}
 use Rattle.lists.specs.Tables.{tab}
 use Rattle.ledger.specs.Tx.{Tx, noRead, readOf, writeOf, noWrite, wrongKind}
 use Rattle.ledger.specs.State.{State, versions, store}
-use Rattle.ledger.specs.Gate.{pages, txAt, txs, txsIn, lentRow}
+use Rattle.ledger.specs.Gate.{pages, txAt, txs, lentRow}
 use Rattle.ledger.specs.Commit.{names, passes, stamp, left, write, afterPage, checkVerdict, commit, verdicts, passed, commitBatch}
-use Rattle.ledger.specs.Inner.{Level, Commitment}
+use Rattle.ledger.specs.Inner.{Level, Commitment, txsIn}
 use Rattle.lists.proofs.Tables.{length-tab, tab-same}
 use Rattle.ledger.specs.Value.{isZero}
 use Rattle.ledger.proofs.Faults.{and-both}

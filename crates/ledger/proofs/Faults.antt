@@ -15,9 +15,9 @@ use lib.Seq.{sets}
 use Rattle.octets.specs.Bytes.{field, le, weighed, set?}
 use Rattle.ledger.specs.Tx.{Tx, valueTx, padded, readOf, writeOf, outOfTurn, wrongVersion, wrongKind}
 use Rattle.ledger.specs.Page.{readCount, writeCount, size, countRows, entryRows, headRows, lengthRow, spareRow, wholeRows, pageRows, pageFault, pageTx, pageOf, withPage}
-use Rattle.ledger.specs.Inner.{Counted}
+use Rattle.ledger.specs.Inner.{Counted, writeLaid}
 use Rattle.ledger.specs.declared.Transaction.{Transaction}
-use Rattle.ledger.specs.Services.{Counts, noTransaction, checkPage, readPage, indexRow, laidRows, writeRows, writeFault, writePage, writeLaid}
+use Rattle.ledger.specs.Services.{Counts, noTransaction, checkPage, readPage, indexRow, laidRows, writeRows, writeFault, writePage}
 
 -- ---- tests
 

@@ -8,7 +8,8 @@ use Rattle.lists.specs.Search.{firstIn}
 use Rattle.ledger.specs.declared.Read.{Read}
 use Rattle.ledger.specs.declared.Write.{Write}
 use Rattle.ledger.specs.Tx.{noRead, noWrite, readOf, writeOf, outOfTurn}
-use Rattle.ledger.specs.Page.{readCount, writeCount, readAt, writeAt, keyAt, pageTx}
+use Rattle.ledger.specs.Page.{readCount, writeCount, readAt, writeAt, pageTx}
+use Rattle.ledger.specs.Inner.{keyAt}
 use Rattle.ledger.proofs.Turns.{turns-same}
 
 module _ (p : List ℕ) where

@@ -42,7 +42,7 @@ write t s (w ∷ ws) = write t (store s (w .key) (left t w)) ws
 unfoldable pub afterPage : ℕ → ℕ → State → Tx → State
 afterPage n i s x = cond (passes (versions s) x) (write (stamp n i) s (x .writes)) s
 
--- "A passing page gets checkVerdict 0." "A page that fails gets checkVerdict 3"
+-- "A passing page gets verdict 0." "A page that fails gets verdict 3"
 abbrev pub checkVerdict : State → Tx → ℕ
 checkVerdict s x = cond (passes (versions s) x) 0 3
 

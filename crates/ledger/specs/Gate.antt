@@ -2,7 +2,7 @@
 use Prim.Native.Nat.{ℕ, _/_, _%_}
 use mathlib.Core.Bool.{Bool, not, _||_}
 use mathlib.Core.List.{List, [], _∷_, _++_}
-use lib.ListN.{length, getD}
+use lib.ListN.{length}
 use lib.Dec.{eqb, ltb}
 use Rattle.lists.specs.Search.{someIn}
 use Rattle.lists.specs.Members.{any}
@@ -21,10 +21,6 @@ txAt batch i = pageTx (pageAt batch i)
 
 unfoldable pub txs : List ℕ → List Tx
 txs batch = tab (pages batch) (txAt batch)
-
--- the transactions on the pages that the first k entries of an order name, in its order
-unfoldable pub txsIn : List ℕ → List ℕ → ℕ → List Tx
-txsIn batch order k = tab k (λ i. txAt batch (getD order i 0))
 
 -- "15: ticket already on an earlier page"
 abbrev pub again : List ℕ → ℕ → Bool

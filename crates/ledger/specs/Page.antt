@@ -35,10 +35,6 @@ readAt p at = record { key = field p at 2; version = record { block = field p (a
 abbrev pub writeAt : List ℕ → ℕ → Write
 writeAt p at = record { key = field p at 2; kind = field p (at + 2) 2; value = toZ w64 (field p (at + 4) 8) }
 
--- the key of the i-th of entries that start at `from`, `step` bytes apart: "key 2" stands first in a read and in a write
-abbrev pub keyAt : List ℕ → ℕ → ℕ → ℕ → ℕ
-keyAt p from step i = field p (from + step * i) 2
-
 -- "4 to 7: ticket"; "8 on: r reads"; "then: w writes"
 unfoldable pub pageTx : List ℕ → Tx
 pageTx p = record {

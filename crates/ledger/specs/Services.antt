@@ -3,7 +3,6 @@ use Prim.Native.Nat.{ℕ, _/_}
 use mathlib.Core.Bool.{not}
 use mathlib.Core.List.{List, [], _∷_, _++_}
 use lib.ListN.{length, replicate}
-use lib.Seq.{sets}
 use lib.Dec.{ltb}
 use Rattle.refusals.specs.declared.Answer.{Answer}
 use Rattle.refusals.specs.Outcome.{Outcome, gives, refuses, outcome}
@@ -12,7 +11,6 @@ use Rattle.ledger.specs.declared.Transaction.{Transaction}
 use Rattle.ledger.specs.declared.PageCheck.{PageCheck}
 use Rattle.ledger.specs.declared.PageCheck.the-variants.{Good, Bad}
 use Rattle.ledger.specs.declared.PageRead.{PageRead}
-use Rattle.octets.specs.Bytes.{le, weighed}
 use Rattle.ledger.specs.Tx.{Tx, valueTx, padded, noRead, noWrite}
 use Rattle.ledger.specs.Page.{countRows, entryRows, pageTx, pageFault, pageOf, withPage}
 
@@ -76,12 +74,6 @@ writePage batch index t =
     let wrong = writeFault t index (length batch / 512) in
     record { answer = judged wrong 0; batch = after wrong (withPage batch index (pageOf (valueTx t))) batch }
 
--- the same of bytes that are laid out already, with the check put behind them: "508 to 511: check"
-unfoldable pub writeLaid : List ℕ → ℕ → List ℕ → WrittenPage
-writeLaid batch index p =
-    let wrong = first (laidRows (pageTx p) index (length batch / 512)) in
-    record { answer = judged wrong 0; batch = after wrong (withPage batch index (sets p 508 (le 4 (weighed p 508)))) batch }
-
 -- the answer of the writer as an outcome, with the batch as it is at the end
-abbrev pub put : Answer → List ℕ → WrittenPage
-put a b = record { answer = outcome a; batch = b }
+abbrev pub wrotePage : Answer → List ℕ → WrittenPage
+wrotePage a b = record { answer = outcome a; batch = b }

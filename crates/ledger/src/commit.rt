@@ -18,9 +18,9 @@ ghost use Rattle.lists.specs.Search.{firstIn};
 ghost use Rattle.ledger.specs.Page.{pageTx};
 ghost use Rattle.ledger.specs.Tx.{readOf, wrongKind};
 ghost use Rattle.ledger.specs.State.{stateOf, versionsIn};
-ghost use Rattle.ledger.specs.Gate.{pages, txsIn};
+ghost use Rattle.ledger.specs.Gate.{pages};
 ghost use Rattle.ledger.specs.Commit.{names, passes, left, write, afterPage, committed, commitBatch};
-ghost use Rattle.ledger.specs.Inner.{Level, Ready, Batch, Commitment};
+ghost use Rattle.ledger.specs.Inner.{Level, Ready, Batch, Commitment, txsIn};
 
 // The verdicts of commit.
 pub const PASSED: u8 = 0;
@@ -144,7 +144,7 @@ fn in_turn() -> [u8; layout::MOST_PAGES]
 }
 
 // Commits the pages that the first `k` entries of an order name, in its order, and gives the number that pass.
-pub fn commit_pages(
+fn commit_pages(
     batch: &[u8],
     order: &[u8],
     k: usize,

@@ -15,13 +15,14 @@ use Rattle.ledger.specs.declared.Read.{Read}
 use Rattle.ledger.specs.declared.Write.{Write}
 use Rattle.ledger.specs.Tx.{noRead, noWrite, readOf, writeOf, valueTx, ReadFits, WriteFits, TransactionFits}
 use Rattle.ledger.specs.Page.{readBytes, writeBytes, headBytes, laidOf, countRows}
-use Rattle.ledger.specs.Services.{writePage, writeLaid}
+use Rattle.ledger.specs.Services.{writePage}
+use Rattle.ledger.specs.Inner.{writeLaid}
 use Rattle.ledger.proofs.Stored.{length-read, length-write}
 use Rattle.ledger.proofs.Laid.{upToSpare, stored}
 use Rattle.ledger.proofs.Valued.{laid-value}
 use Rattle.ledger.proofs.Faults.{Roomy, roomy, wrong-counts, write-refused}
 use Rattle.ledger.proofs.Back.{Drafted, drafted, written}
-use Rattle.node.specs.Lent.{Arrays, lentRead, lentWrite, lentTx}
+use Rattle.node.specs.Lent.{Arrays, readIn, writeIn, lentTx}
 
 -- what holds below i and at i holds below i + 1
 pub up-to : (P : ℕ → Type 0) (i : ℕ) → ((k : ℕ) → k < i → P k) → P i → (k : ℕ) → k < i + 1 → P k
@@ -29,10 +30,10 @@ up-to P i below here k h = let l : k ≤ i = omega arith in ⊎-elim {C = P k} (
 
 module _ (a : Arrays) where
   abbrev read : ℕ → Read
-  read = lentRead (a .readKeys) (a .readPlaces) (a .readBlocks)
+  read = readIn (a .readKeys) (a .readPlaces) (a .readBlocks)
 
   abbrev write : ℕ → Write
-  write = lentWrite (a .writeKeys) (a .writeKinds) (a .writeValues)
+  write = writeIn (a .writeKeys) (a .writeKinds) (a .writeValues)
 
   long-reads : length (lentTx a .reads) ≡ 32
   unfolding lentTx

@@ -30,11 +30,11 @@ pub record Arrays : Type 0 where
   pub writeValues : List ℤ
 
 -- entry i of three arrays
-abbrev pub lentRead : List ℕ → List ℕ → List ℕ → ℕ → Read
-lentRead keys places blocks i = record { key = getD keys i 0; version = at (getD blocks i 0) (getD places i 0) }
+abbrev pub readIn : List ℕ → List ℕ → List ℕ → ℕ → Read
+readIn keys places blocks i = record { key = getD keys i 0; version = at (getD blocks i 0) (getD places i 0) }
 
-abbrev pub lentWrite : List ℕ → List ℕ → List ℤ → ℕ → Write
-lentWrite keys kinds values i = record { key = getD keys i 0; kind = getD kinds i 0; value = getD values i (pos 0) }
+abbrev pub writeIn : List ℕ → List ℕ → List ℤ → ℕ → Write
+writeIn keys kinds values i = record { key = getD keys i 0; kind = getD kinds i 0; value = getD values i (pos 0) }
 
 -- the transaction in them
 unfoldable pub lentTx : Arrays → Transaction
@@ -42,8 +42,8 @@ lentTx a = record {
   ticket = getD (a .head) 2 0;
   r = getD (a .head) 0 0;
   w = getD (a .head) 1 0;
-  reads = tab 32 (lentRead (a .readKeys) (a .readPlaces) (a .readBlocks));
-  writes = tab 32 (lentWrite (a .writeKeys) (a .writeKinds) (a .writeValues));
+  reads = tab 32 (readIn (a .readKeys) (a .readPlaces) (a .readBlocks));
+  writes = tab 32 (writeIn (a .writeKeys) (a .writeKinds) (a .writeValues));
 }
 
 -- and a transaction laid out in them

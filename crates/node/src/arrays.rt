@@ -14,7 +14,7 @@ ghost use Rattle.lists.specs.Tables.{flat};
 ghost use Rattle.ledger.specs.Tx.{ReadFits, WriteFits};
 ghost use Rattle.ledger.specs.Page.{readBytes, writeBytes};
 ghost use Rattle.ledger.specs.Inner.{Counted};
-ghost use Rattle.node.specs.Lent.{arraysOn, lentRead, lentWrite};
+ghost use Rattle.node.specs.Lent.{arraysOn, readIn, writeIn};
 
 // Fills three arrays of zeros with the reads of a page.
 pub fn fill_reads(page: &[u8], keys: &mut [u16], places: &mut [u16], blocks: &mut [u32])
@@ -70,10 +70,10 @@ pub fn lay_reads(p: &mut [u8], keys: &[u16], places: &[u16], blocks: &[u32], cou
     ensures { λ _. ⌜
         now (p .exit)
         ≡ sets (now (p .entry)) 8
-        (flat count (λ i. readBytes (lentRead (now (keys .entry)) (now (places .entry)) (now (blocks .entry)) i)))
+        (flat count (λ i. readBytes (readIn (now (keys .entry)) (now (places .entry)) (now (blocks .entry)) i)))
         ⌝ }
     ensures { λ _. ⌜
-        ((i : ℕ) → i < count → ReadFits (lentRead (now (keys .entry)) (now (places .entry)) (now (blocks .entry)) i))
+        ((i : ℕ) → i < count → ReadFits (readIn (now (keys .entry)) (now (places .entry)) (now (blocks .entry)) i))
         ⌝ }
 {
     let mut i = 0;
@@ -104,10 +104,10 @@ pub fn lay_writes(
     ensures { λ _. ⌜
         now (p .exit)
         ≡ sets (now (p .entry)) at
-        (flat count (λ i. writeBytes (lentWrite (now (keys .entry)) (now (kinds .entry)) (now (values .entry)) i)))
+        (flat count (λ i. writeBytes (writeIn (now (keys .entry)) (now (kinds .entry)) (now (values .entry)) i)))
         ⌝ }
     ensures { λ _. ⌜
-        ((i : ℕ) → i < count → WriteFits (lentWrite (now (keys .entry)) (now (kinds .entry)) (now (values .entry)) i))
+        ((i : ℕ) → i < count → WriteFits (writeIn (now (keys .entry)) (now (kinds .entry)) (now (values .entry)) i))
         ⌝ }
 {
     let mut i = 0;

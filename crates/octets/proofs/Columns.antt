@@ -1,15 +1,15 @@
 -- Laws of the sum by columns, and what the loops that take it keep. Assumes nothing.
 use mathlib.Core.Path.{_≡_, refl, ap, _∙_}
 use mathlib.Core.List.{List}
-use mathlib.Core.Logic.{⊎-elim}
 use Prim.Native.Nat.{ℕ, zero, suc, _+_, _*_, _-_, _≤_, _<_}
-use native.Mathlib.Nat.{mul-add, add-mul, add-suc, add-zero, mul-zero, eq-or-lt-of-le, mul-le-mul, le-pred-of-lt}
+use native.Mathlib.Nat.{mul-add, add-mul, add-suc, add-zero, mul-zero, mul-le-mul, le-pred-of-lt}
 use native.Mathlib.Numerals.{add-one}
 use native.Mathlib.Omega.{arith}
 use lib.ListN.{length, getD, set, length-set, take, drop, length-take, length-drop, replicate, getD-replicate}
-use lib.Seq.{getD-set-same, getD-set-other, getD-take, getD-drop}
+use lib.Seq.{getD-set-other, getD-take, getD-drop}
 use Rattle.octets.specs.Bytes.{weighed, Small}
 use Rattle.octets.specs.Columns.{byColumns, Lanes, Room, Added}
+use Rattle.lists.proofs.Stores.{front-more}
 
 -- the sum of the first n elements
 unfoldable pub summed : List ℕ → ℕ → ℕ
@@ -69,15 +69,6 @@ adding-begins row sums runs room = record {
   runs-left = λ k h. refl;
 }
 
--- what holds at the column that is stored to, and before it
-stored : (l : List ℕ) (c v : ℕ) (f : ℕ → ℕ) → length l ≡ 48 → c < 48 → v ≡ f c → ((k : ℕ) → k < c → getD l k 0 ≡ f k)
-    → (k : ℕ) → k < c + 1 → getD (set l c v) k 0 ≡ f k
-stored l c v f long h e before k w =
-    ⊎-elim
-    (λ q. let i : k ≡ c = omega arith in rw (i, getD-set-same l c v 0 (omega arith)) e)
-    (λ q. getD-set-other l c k v 0 (λ i. absurd (omega arith)) ∙ before k (omega arith))
-    (eq-or-lt-of-le w)
-
 module _ (row sums₀ runs₀ sums runs : List ℕ) (c : ℕ) (a : Adding row sums₀ runs₀ sums runs c) where
   -- the sums of a turn fit
   pub runs-fits : Room row sums₀ runs₀ → c < 48 → getD runs c 0 + getD sums c 0 < 65536
@@ -94,8 +85,8 @@ module _ (row sums₀ runs₀ sums runs : List ℕ) (c : ℕ) (a : Adding row su
         in-row = omega arith;
         sums-long = length-set sums c _ ∙ a .sums-long;
         runs-long = length-set runs c _ ∙ a .runs-long;
-        sums-done = stored sums c _ (λ k. getD sums₀ k 0 + getD row k 0) (a .sums-long) h (omega arith) (a .sums-done);
-        runs-done = stored runs c _ (λ k. getD runs₀ k 0 + getD sums₀ k 0) (a .runs-long) h (omega arith) (a .runs-done);
+        sums-done = front-more (λ k. getD sums₀ k 0 + getD row k 0) sums c _ (omega (arith, a .sums-long)) (omega arith) (a .sums-done);
+        runs-done = front-more (λ k. getD runs₀ k 0 + getD sums₀ k 0) runs c _ (omega (arith, a .runs-long)) (omega arith) (a .runs-done);
         sums-left = λ k l. getD-set-other sums c k _ 0 (λ i. absurd (omega arith)) ∙ a .sums-left k (omega arith);
         runs-left = λ k l. getD-set-other runs c k _ 0 (λ i. absurd (omega arith)) ∙ a .runs-left k (omega arith);
       }

@@ -45,7 +45,7 @@ table =
     ∷ record { text = ascii "failed"; length = 6 }
     ∷ []
 
--- a row of the table spells the verdictWord of its verdict
+-- a row of the table spells the word of its verdict
 pub record Spells (v : ℕ) (w : Word) : Type 0 where
   pub short : w .length ≤ 6
   pub within : w .length ≤ length (w .text)

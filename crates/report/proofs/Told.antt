@@ -13,7 +13,7 @@ use Rattle.ledger.specs.Commit.{Commits, committed, commitBatch}
 use Rattle.planning.specs.Plan.{Plans, planned}
 use Rattle.lists.specs.Tables.{filled}
 use Rattle.report.specs.Listing.{listed, refused}
-use Rattle.report.specs.Program.{Within, startNumber, plan, stateAfter, settled, shown, told, booked}
+use Rattle.report.specs.Program.{Within, startNumber, plan, stateAfter, stateLeft, shown, told, toldState}
 use Rattle.report.specs.declared.program.Input.{Input}
 use Rattle.report.specs.declared.program.Input.the-variants.{Bytes, TooLong, Unread}
 
@@ -50,20 +50,20 @@ module _ (text input : List ℕ) (s : State) where
 
   pub told-refused : (f : Refusal) (a b c : List ℕ) → planned (Refused f) a b c ≡ plan input s
       → (r : ℕ) (new : List ℕ) → Told text (refused text (f .number) (f .place)) r new
-      → Left text (shown input s text) (settled input s) r new s
-  unfolding shown settled stateAfter
+      → Left text (shown input s text) (stateLeft input s) r new s
+  unfolding shown stateLeft stateAfter
   told-refused f a b c e r new x =
-      same-left text (refused text (f .number) (f .place)) (shown input s text) s (settled input s) r new s
+      same-left text (refused text (f .number) (f .place)) (shown input s text) s (stateLeft input s) r new s
       (ap due e) (ap then e) (x .0, (x .1, refl))
 
   pub told-listed : (k : ℕ) (a b c : List ℕ) → planned (Count k) a b c ≡ plan input s
       → (d : Answer) (t : State) (qs : List ℕ) → committed d t qs ≡ commitBatch (take (512 * k) c) s startNumber (replicate 64 0)
       → (r : ℕ) (new : List ℕ) → Told text (listed text startNumber input a b k t) r new
-      → Left text (shown input s text) (settled input s) r new t
-  unfolding shown settled stateAfter
+      → Left text (shown input s text) (stateLeft input s) r new t
+  unfolding shown stateLeft stateAfter
   told-listed k a b c e d t qs f r new x =
       let g : t ≡ commitBatch (take (512 * k) c) s startNumber (replicate 64 0) .state = ap (λ (x : Commits). x .state) f in
-      same-left text (listed text startNumber input a b k t) (shown input s text) t (settled input s) r new t
+      same-left text (listed text startNumber input a b k t) (shown input s text) t (stateLeft input s) r new t
       (ap (listed text startNumber input a b k) g ∙ ap due e) (g ∙ ap then e) (x .0, (x .1, refl))
 
 -- the text lies within the buffer
@@ -72,8 +72,8 @@ filled-long text t new r x = rw (x .1, length-append t (drop (length t) text)) (
 
 -- where it is known what was read
 pub told-read : (page text : List ℕ) (s : State) (read known : Input) (r : ℕ) (new : List ℕ) (left : State) → read ≡ known
-    → Left text (told known page s text) (booked known page s) r new left
-    → (r ≤ length new) × Left text (told read page s text) (booked read page s) r new left
+    → Left text (told known page s text) (toldState known page s) r new left
+    → (r ≤ length new) × Left text (told read page s text) (toldState read page s) r new left
 told-read page text s read known r new left e x = rw e (filled-long text (told known page s text) new r (x .0, x .1 .0), x)
 
 -- bytes that are known to be read lie within the buffer

@@ -33,7 +33,7 @@ placeText order k i =
     let p = firstIn (λ j. eqb (getD order j 0) i) 0 k in
     cond (ltb p k) (decimal p) (ascii "-")
 
--- "ticket, verdict verdictWord, place in the schedule or a hyphen"
+-- "ticket, verdict word, place in the schedule or a hyphen"
 unfoldable pub pageLine : ℕ → ℕ → List ℕ → List ℕ
 pageLine ticket verdict place = decimal ticket ++ (ascii " " ++ (verdictWord verdict ++ (ascii " " ++ (place ++ ascii "\n"))))
 

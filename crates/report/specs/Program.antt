@@ -34,8 +34,8 @@ unfoldable pub stateAfter : List ℕ → State → ℕ → State
 stateAfter input s k = commitBatch (take (512 * k) (plan input s .out)) s startNumber (replicate 64 0) .state
 
 -- the state in the end, by plan's answer
-unfoldable pub settled : List ℕ → State → State
-settled input s =
+unfoldable pub stateLeft : List ℕ → State → State
+stateLeft input s =
     elim (plan input s .answer) [
       | gives k ↦ stateAfter input s k
       | refuses number place ↦ s
@@ -56,7 +56,7 @@ told TooLong page s text = refused text 11 0
 told Unread page s text = []
 
 -- and the state that is left
-abbrev pub booked : Input → List ℕ → State → State
-booked (Bytes n) page s = settled (take n page) s
-booked TooLong page s = s
-booked Unread page s = s
+abbrev pub toldState : Input → List ℕ → State → State
+toldState (Bytes n) page s = stateLeft (take n page) s
+toldState TooLong page s = s
+toldState Unread page s = s

@@ -6,7 +6,7 @@ ghost use mathlib.Core.Path.{_≡_};
 ghost use lib.ListN.{length};
 ghost use Rattle.lists.specs.Tables.{filled};
 ghost use Rattle.ledger.specs.State.{stateOf};
-ghost use Rattle.report.specs.Program.{Within, settled, shown, told, booked};
+ghost use Rattle.report.specs.Program.{Within, stateLeft, shown, told, toldState};
 
 // The number that the batch is planned and committed under.
 const START_NUMBER: u32 = 1;
@@ -37,7 +37,7 @@ fn list_input(
     ensures { λ r. ⌜ (
         let s = stateOf (now (blocks .entry)) (now (places .entry)) (now (values .entry)) in
         let left = stateOf (now (blocks .exit)) (now (places .exit)) (now (values .exit)) in
-        left ≡ settled (now (input .entry)) s
+        left ≡ stateLeft (now (input .entry)) s
         ) ⌝ }
 {
     let mut verdicts = [0u8; layout::MOST_PAGES];
@@ -103,7 +103,7 @@ pub fn answer(
     ensures { λ r. ⌜ (
         let s = stateOf (now (blocks .entry)) (now (places .entry)) (now (values .entry)) in
         let left = stateOf (now (blocks .exit)) (now (places .exit)) (now (values .exit)) in
-        left ≡ booked read (now (page .entry)) s
+        left ≡ toldState read (now (page .entry)) s
         ) ⌝ }
 {
     match read {

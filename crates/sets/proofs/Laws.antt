@@ -55,7 +55,7 @@ part-lt a b i h p q = omega (arith, part-le a b h, differ)
 pub none : (i : ℕ) → member 0 i ≡ false
 none = of-none
 
--- a set of k places has members below k alone, and oneIf that is not 0 has some
+-- a set of k places has members below k alone, and one that is not 0 has some
 pub within : (k m i : ℕ) → m < 2 ^ k → member m i ≡ true → i < k
 unfolding member
 within k m i h e = lt-of-not-le (λ l. clash (sym e ∙ ap (λ (x : ℕ). eqb (x % 2) 1) (div-eq-of-lt (lt-of-lt-of-le h (pow-mono l)))))
@@ -63,7 +63,7 @@ within k m i h e = lt-of-not-le (λ l. clash (sym e ∙ ap (λ (x : ℕ). eqb (x
 pub some : (k m : ℕ) → 0 < m → m < 2 ^ k → (i : ℕ) × (member m i ≡ true)
 some k m p h = (_, of-trailing k m p h .1)
 
--- sizes: of sets that agree below n, of 0, and of a set without oneIf of its members
+-- sizes: of sets that agree below n, of 0, and of a set without one of its members
 pub size-same : (m r n : ℕ) → ((j : ℕ) → j < n → member m j ≡ member r j) → howMany m n ≡ howMany r n
 unfolding howMany
 size-same m r zero h = refl
@@ -92,12 +92,12 @@ size-less m r i (suc n) e h w = ⊎-elim here (λ l. there (size-less m r i n e 
     there : howMany m n ≡ howMany r n + 1 → i < n → howMany m n + oneIf (member m n) ≡ howMany r n + oneIf (member r n) + 1
     there s l = let a : oneIf (member r n) ≡ oneIf (member m n) = ap oneIf (other n (λ z. omega arith)) in omega arith
 
--- a set without oneIf of its members is a smaller number: the measure of a loop that takes oneIf member a turn
+-- a set without one of its members is a smaller number: the measure of a loop that takes one member a turn
 pub without-lt : (m r i : ℕ) → member m i ≡ true → ((j : ℕ) → member r j ≡ (member m j && not (eqb i j))) → r < m
 without-lt m r i e w =
     part-lt r m i (λ j z. minus-some (member m j) (eqb i j) (sym (w j) ∙ z) .0) (w i ∙ rw (eq-eqb i i refl, and-false)) e
 
--- and oneIf more member makes it greater
+-- and one more member makes it greater
 pub with-lt : (m r i : ℕ) → member m i ≡ false → ((j : ℕ) → member r j ≡ (member m j || eqb i j)) → m < r
 with-lt m r i e w = part-lt m r i (λ j z. w j ∙ or-first (member m j) _ z) e (w i ∙ or-second (member m i) _ (eq-eqb i i refl))
 

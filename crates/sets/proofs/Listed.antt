@@ -1,4 +1,4 @@
--- Laws of a set's members as a list: who stands in it, how long it is, and what a set without oneIf of its members lists. Assumes nothing.
+-- Laws of a set's members as a list: who stands in it, how long it is, and what a set without one of its members lists. Assumes nothing.
 use mathlib.Core.Path.{_≡_, refl, ap₂, _∙_}
 use mathlib.Core.Bool.{Bool, true, false, not, _&&_, cond}
 use mathlib.Core.List.{[], _∷_}
@@ -32,7 +32,7 @@ listed-size m (suc n) = rw (those-append (member m) (upto n) (n ∷ []), length-
     last true = refl
     last false = refl
 
--- oneIf taken out of the set is taken out of the list
+-- one taken out of the set is taken out of the list
 pub listed-without : (m r i n : ℕ) → ((j : ℕ) → member r j ≡ (member m j && not (eqb i j))) → members r n ≡ those (λ j. not (eqb i j)) (members m n)
 listed-without m r i n w =
     those-same (member r) (λ j. member m j && not (eqb i j)) (upto n) (λ x k. w x)

@@ -15,7 +15,7 @@ use Rattle.refusals.specs.Outcome.{gives, refuses}
 use Rattle.refusals.specs.Fault.{first}
 use Rattle.tonnage.specs.declared.figure.Parts.{Parts}
 use Rattle.tonnage.specs.Text.{minus, laid, magnitude, form, figure, signed, tooLarge, digits, width, below0, tonnes, rest, textOf}
-use Rattle.tonnage.specs.Services.{in64, readRows, readText, writeRows, writeText}
+use Rattle.tonnage.specs.Services.{in64, readRows, readText, textRows, writeText}
 use Rattle.tonnage.proofs.Laying.{and-false}
 use Rattle.tonnage.proofs.Runs.{length-digits}
 
@@ -102,12 +102,12 @@ module _ (z : ℤ) (buffer : List ℕ) where
       ∙ rw (zero-add, ← e) (sets-append (sets buffer 0 (signOf z)) s (digits w t) tail ∙ rw (length-digits w t, add-one)))))
 
   pub too-small : (n : ℕ) → n ≡ length (textOf z) → length buffer < n → record { answer = refuses 20 0; text = buffer } ≡ writeText buffer z
-  unfolding writeText writeRows first
+  unfolding writeText textRows first
   too-small n e h = rw (lt-ltb (length buffer) (length (textOf z)) (rw e at h))
 
   pub fitting : (n : ℕ) (after : List ℕ) → n ≡ length (textOf z) → n ≤ length buffer → after ≡ sets buffer 0 (textOf z)
       → record { answer = gives n; text = after } ≡ writeText buffer z
-  unfolding writeText writeRows first
+  unfolding writeText textRows first
   fitting n after e h f =
       let l : length (textOf z) ≤ length buffer = omega arith in
       rw (le-ltb (length buffer) (length (textOf z)) l, f, e, sets-eq (textOf z) buffer 0 (rw zero-add l), zero-add)

@@ -12,7 +12,7 @@ use mir.Val.{SFits}
 use borrow.Author.Tests.{ltb-true, lt-ltb, le-ltb, not-false}
 use Rattle.refusals.specs.Outcome.{gives}
 use Rattle.tonnage.specs.Text.{form, figure, signed, follow, digits, widthIn, width, below0, tonnes, rest, textOf}
-use Rattle.tonnage.specs.Services.{in64, readRows, readText, writeRows, writeText}
+use Rattle.tonnage.specs.Services.{in64, readRows, readText, textRows, writeText}
 use Rattle.refusals.specs.Fault.{first}
 use Rattle.refusals.proofs.Rows.{row-none, judged-gives}
 use Rattle.tonnage.proofs.Runs.{length-digits, width-some, narrow}
@@ -119,7 +119,7 @@ longest-fits z f = longest z (within-64 z f)
 -- where the text fits, it is written
 pub written : (z : ℤ) (buffer : List ℕ) → length (textOf z) ≤ length buffer
     → writeText buffer z ≡ record { answer = gives (length (textOf z)); text = textOf z ++ drop (length (textOf z)) buffer }
-unfolding writeText writeRows first
+unfolding writeText textRows first
 written z buffer h = rw (le-ltb (length buffer) (length (textOf z)) h)
 
 pub lowest-has-21 : length (textOf (negsuc 9223372036854775807)) ≡ 21

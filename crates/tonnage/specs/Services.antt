@@ -39,13 +39,13 @@ pub record WrittenText : Type 0 where
   pub text : List ℕ
 
 -- "Text writing: 20": "20: text buffer shorter than the text"
-unfoldable pub writeRows : List ℕ → ℤ → List Row
-writeRows buffer z = row 20 0 (ltb (length buffer) (length (textOf z))) ∷ []
+unfoldable pub textRows : List ℕ → ℤ → List Row
+textRows buffer z = row 20 0 (ltb (length buffer) (length (textOf z))) ∷ []
 
 -- "The writer fills the front of a lent text buffer, gives the length, and leaves the bytes after it."
 unfoldable pub writeText : List ℕ → ℤ → WrittenText
 writeText buffer z =
-    let wrong = first (writeRows buffer z) in
+    let wrong = first (textRows buffer z) in
     record { answer = judged wrong (length (textOf z)); text = after wrong (filled (textOf z) buffer) buffer }
 
 -- the answer of the writer as an outcome, with the buffer as it is at the end

@@ -74,7 +74,7 @@ widthIn (suc k) n = elim (ltb n 10) [ true ↦ 1 | false ↦ suc (widthIn k (n /
 unfoldable pub width : ℕ → ℕ
 width n = widthIn n n
 
--- "Kilograms written as tonnes": the sign, the whole tonnes, and the kilograms tooLarge them
+-- "Kilograms written as tonnes": the sign, the whole tonnes, and the kilograms beyond them
 abbrev pub below0 : ℤ → Bool
 below0 (pos n) = false
 below0 (negsuc n) = true

@@ -17,8 +17,8 @@ ghost use Rattle.lists.specs.Search.{firstIn};
 ghost use mathlib.Core.List.{_∷_};
 ghost use Rattle.refusals.specs.Fault.{first, finding};
 ghost use Rattle.ledger.specs.Tx.{readOf, writeOf, outOfTurn, wrongVersion, wrongKind};
-ghost use Rattle.ledger.specs.Page.{keyAt, pageTx, lengthRow, headRows, entryRows};
-ghost use Rattle.ledger.specs.Inner.{Counted};
+ghost use Rattle.ledger.specs.Page.{pageTx, lengthRow, headRows, entryRows};
+ghost use Rattle.ledger.specs.Inner.{Counted, keyAt};
 ghost use Rattle.ledger.specs.Services.{checked, checkPage};
 
 // The first of `count` keys that is out of turn, where entries start at `from`, `step` bytes apart; `count` where none is.

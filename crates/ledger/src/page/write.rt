@@ -7,14 +7,14 @@ use crate::page::fill;
 use refusals::Answer;
 use refusals::Finding;
 ghost use mathlib.Core.Path.{_≡_};
-ghost use Rattle.ledger.specs.Inner.{Counted};
-ghost use Rattle.ledger.specs.Services.{put, writeLaid, writePage};
+ghost use Rattle.ledger.specs.Inner.{Counted, writeLaid};
+ghost use Rattle.ledger.specs.Services.{wrotePage, writePage};
 
 // Writes the bytes that are laid out, with their check, at a page index of a batch of any length: refusals 6 to 9, then 17.
 // The entries are checked where they are laid out, so that a refusal leaves the batch as it was.
 pub fn write_laid(batch: &mut [u8], index: usize, laid: &[u8]) -> Answer
     requires { ⌜ Counted (now laid) ⌝ }
-    ensures { λ x. ⌜ put x (now (batch .exit)) ≡ writeLaid (now (batch .entry)) index (now (laid .entry)) ⌝ }
+    ensures { λ x. ⌜ wrotePage x (now (batch .exit)) ≡ writeLaid (now (batch .entry)) index (now (laid .entry)) ⌝ }
 {
     let found = check::entry_fault(laid);
     if let Finding::Found { refusal } = found {
@@ -31,7 +31,7 @@ pub fn write_laid(batch: &mut [u8], index: usize, laid: &[u8]) -> Answer
 
 // Writes a page at a page index of a batch of any length: refusals 4 to 9, then 17.
 pub fn write_page(batch: &mut [u8], index: usize, t: Transaction) -> Answer
-    ensures { λ x. ⌜ put x (now (batch .exit)) ≡ writePage (now (batch .entry)) index t ⌝ }
+    ensures { λ x. ⌜ wrotePage x (now (batch .exit)) ≡ writePage (now (batch .entry)) index t ⌝ }
 {
     let found = counts::count_fault(t.r, t.w);
     if let Finding::Found { refusal } = found {

@@ -9,10 +9,11 @@ use native.Mathlib.Omega.{arith}
 use borrow.Author.Needs.{needs}
 use denote.Ref.{now}
 use lib.ListN.{length, getD, set}
-use Rattle.ledger.specs.Gate.{txAt, txsIn}
+use Rattle.ledger.specs.Gate.{txAt}
 use Rattle.ledger.specs.Page.{pageTx}
 use Rattle.ledger.specs.State.{State, stateOf}
 use Rattle.ledger.specs.Tx.{Tx}
+use Rattle.ledger.specs.Inner.{txsIn}
 use Rattle.ledger.proofs.Commits.{Kept, kept-level, Committing, committing-begins, committing-kept, committing-long, committing-turns, committing-ends}
 use Rattle.ledger.proofs.commit.commit_pages.Statement.{statement}
 use Rattle.ledger.proofs.commit.commit_pages.Tie as tie

@@ -11,12 +11,12 @@ use Rattle.lists.specs.Tables.{flat}
 use Rattle.lists.proofs.Tables.{flat-more}
 use Rattle.ledger.specs.Page.{readBytes}
 use Rattle.ledger.proofs.Stored.{length-read}
-use Rattle.node.specs.Lent.{lentRead}
+use Rattle.node.specs.Lent.{readIn}
 use Rattle.node.proofs.arrays.lay_reads.Statement.{statement}
 use Rattle.node.proofs.arrays.lay_reads.Tie as tie
 
 abbrev Inv-loop : tie.InvT-loop
-Inv-loop p₀ keys places blocks n i₀ p i = (i ≤ n) × (length p ≡ length p₀) × (p ≡ sets p₀ 8 (flat i (λ k. readBytes (lentRead keys places blocks k))))
+Inv-loop p₀ keys places blocks n i₀ p i = (i ≤ n) × (length p ≡ length p₀) × (p ≡ sets p₀ 8 (flat i (λ k. readBytes (readIn keys places blocks k))))
 
 abbrev μ-loop : tie.MeasureT-loop
 μ-loop p₀ keys places blocks n i₀ p i = n - i
@@ -66,7 +66,7 @@ loop-again c =
       search needs,
       w .put-read .kept .0 ∙ h .loop .inv .1,
       w .put-read .ensures
-          ∙ rw (h .loop .inv .2) (flat-more 8 _ (λ k. length-read (lentRead (now (a .keys)) (now (a .places)) (now (a .blocks)) k)) _ _ (h .loop .i)),
+          ∙ rw (h .loop .inv .2) (flat-more 8 _ (λ k. length-read (readIn (now (a .keys)) (now (a .places)) (now (a .blocks)) k)) _ _ (h .loop .i)),
     )
 
 same-length : tie.Need-same-length Inv-loop μ-loop

@@ -15,14 +15,14 @@ use Rattle.lists.specs.Tables.{flat}
 use Rattle.lists.proofs.Tables.{flat-more}
 use Rattle.ledger.specs.Page.{writeBytes}
 use Rattle.ledger.proofs.Stored.{length-write}
-use Rattle.node.specs.Lent.{lentWrite}
+use Rattle.node.specs.Lent.{writeIn}
 use Rattle.node.proofs.Lending.{up-to}
 use Rattle.node.proofs.arrays.lay_writes.Statement.{statement}
 use Rattle.node.proofs.arrays.lay_writes.Tie as tie
 
 abbrev Inv-loop : tie.InvT-loop
 Inv-loop p₀ at keys kinds values n i₀ p i =
-    (i ≤ n) × (length p ≡ length p₀) × (p ≡ sets p₀ at (flat i (λ k. writeBytes (lentWrite keys kinds values k))))
+    (i ≤ n) × (length p ≡ length p₀) × (p ≡ sets p₀ at (flat i (λ k. writeBytes (writeIn keys kinds values k))))
     × ((k : ℕ) → k < i → SFits w64 (getD values k (pos 0)))
 
 abbrev μ-loop : tie.MeasureT-loop
@@ -77,7 +77,7 @@ loop-again c =
       w .put-write .kept .0 ∙ h .loop .inv .1,
       w .put-write .ensures
           ∙ rw (toZ-ofZ {w = w64} {z = z} f, h .loop .inv .2)
-          (flat-more 12 _ (λ k. length-write (lentWrite (now (a .keys)) (now (a .kinds)) (now (a .values)) k)) _ _ (h .loop .i)),
+          (flat-more 12 _ (λ k. length-write (writeIn (now (a .keys)) (now (a .kinds)) (now (a .values)) k)) _ _ (h .loop .i)),
       up-to (λ k. SFits w64 (getD (now (a .values)) k (pos 0))) (h .loop .i) (h .loop .inv .3) f,
     )
 

@@ -6,7 +6,7 @@ use borrow.Author.Needs.{needs}
 use denote.Ref.{now}
 use lib.ListN.{length}
 use Rattle.lists.proofs.Loops.{ends}
-use Rattle.ledger.specs.Page.{keyAt}
+use Rattle.ledger.specs.Inner.{keyAt}
 use Rattle.ledger.proofs.Turns.{Turned, key-within, turned-begins, turned-found, turned-passes}
 use Rattle.ledger.proofs.page.check.first_key.Statement.{statement}
 use Rattle.ledger.proofs.page.check.first_key.Tie as tie

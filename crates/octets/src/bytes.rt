@@ -5,7 +5,7 @@ ghost use lib.ListN.{length};
 ghost use lib.Seq.{sets};
 ghost use mir.Syntax.{w64};
 ghost use mir.Val.{toZ, ofZ};
-ghost use Rattle.lists.specs.Search.{someIn};
+ghost use Rattle.lists.specs.Search.{firstIn, someIn};
 ghost use Rattle.octets.specs.Bytes.{field, set?, le};
 
 // The number in the two bytes of `p` from `at` on.
@@ -45,6 +45,21 @@ pub fn any_set(p: &[u8], from: usize, to: usize) -> bool
         i += 1;
     }
     all != 0
+}
+
+// The first byte from `from` up to, not including, `to` that is not zero; `to` where none is.
+pub fn first_set(p: &[u8], from: usize, to: usize) -> usize
+    requires { ⌜ (from ≤ to) × (to ≤ length (now p)) ⌝ }
+    ensures { λ i. ⌜ i ≡ firstIn (set? (now (p .entry))) from to ⌝ }
+{
+    let mut i = from;
+    while i < to {
+        if p[i] != 0 {
+            return i;
+        }
+        i += 1;
+    }
+    to
 }
 
 // Copies all bytes of `from`.

@@ -8,11 +8,11 @@ use mathlib.Core.Logic.{_↔_, _⊎_, inl, inr, ⊎-elim}
 use mathlib.Core.Path.{_≡_, refl, sym, ap, ap₂, _∙_}
 use lib.Dec.{T}
 use Rattle.lists.specs.Members.{all}
-use Rattle.lists.specs.Search.{firstIn}
+use Rattle.lists.specs.Search.{firstIn, someIn}
 use Rattle.lists.proofs.Tests.{both, and-left, and-right}
-use Rattle.lists.proofs.Searches.{none, holds, missed, before}
+use Rattle.lists.proofs.Searches.{some, none, holds, missed, before}
 use Rattle.refusals.specs.Outcome.{Outcome, gives, refuses}
-use Rattle.refusals.specs.Fault.{Fault, clear, fault, isClear, Row, row, first, Given, here, later, rowsFrom, inTurn, eachRow, moved, judged, after}
+use Rattle.refusals.specs.Fault.{Fault, clear, fault, isClear, Row, row, first, Given, here, later, rowsFrom, inTurn, eachRow, lowestRow, moved, judged, after}
 
 abbrev pub movedFault : (ℕ → ℕ) → Fault → Fault
 movedFault f clear = clear
@@ -71,6 +71,23 @@ module _ (r : Row) (rs : List Row) where
       go true q = absurd (no-fault q refl)
       go false q = (refl, q)
 
+  -- what a fault says, whichever row it is of
+  pub row-cases : (P : ℕ → ℕ → Type 0) {n p : ℕ} → (r .case ≡ true → P (r .number) (r .place)) → (r .case ≡ false → first rs ≡ fault n p → P n p)
+      → first (r ∷ rs) ≡ fault n p → P n p
+  row-cases P {n} {p} there others e = go (r .case) refl
+    where
+      go : (b : Bool) → r .case ≡ b → P n p
+      go true c = rw (sym (one-number (row-there c) e), sym (one-place (row-there c) e)) (there c)
+      go false c = others c (sym (row-passed c) ∙ e)
+
+-- no row
+pub empty-clear : first [] ≡ clear
+unfolding first
+empty-clear = refl
+
+pub no-rows : {n p : ℕ} → first [] ≡ fault n p → ⊥
+no-rows e = no-fault empty-clear e
+
 -- ---- some rows, then others
 
 pub append-clear : (xs ys : List Row) → first xs ≡ clear → first (xs ++ ys) ≡ first ys
@@ -95,6 +112,14 @@ append-none xs ys e = go (first xs) refl
     go : (f : Fault) → first xs ≡ f → (first xs ≡ clear) × (first ys ≡ clear)
     go clear h = (h, sym (append-clear xs ys h) ∙ e)
     go (fault n p) h = absurd (no-fault e (append-fault xs ys h))
+
+pub append-either : (xs ys : List Row) {n p : ℕ} → first (xs ++ ys) ≡ fault n p
+    → (first xs ≡ fault n p) ⊎ ((first xs ≡ clear) × (first ys ≡ fault n p))
+append-either xs ys {n} {p} e = go (first xs) refl
+  where
+    go : (f : Fault) → first xs ≡ f → (first xs ≡ fault n p) ⊎ ((first xs ≡ clear) × (first ys ≡ fault n p))
+    go clear h = inr (h, sym (append-clear xs ys h) ∙ e)
+    go (fault m q) h = inl (sym (append-fault xs ys h ∙ sym h) ∙ e)
 
 -- rows of which none is there, behind others
 pub append-rest : (xs ys : List Row) → first ys ≡ clear → first (xs ++ ys) ≡ first xs
@@ -128,6 +153,34 @@ module _ (rows : ℕ → List Row) where
       append-clear (rows i) (rowsFrom rows (suc i) k) (rw add-zero at (h 0 (omega arith)))
       ∙ from-at (suc i) k j (omega arith) (λ l q. rw (suc-add, ← add-suc) (h (suc l) (omega arith))) (rw (suc-add, ← add-suc) e)
 
+  -- a fault is of an index before which there is none
+  pub record Which (i k n p : ℕ) : Type 0 where
+    pub index : ℕ
+    pub within : index < k
+    pub earlier : (l : ℕ) → l < index → first (rows (i + l)) ≡ clear
+    pub given : first (rows (i + index)) ≡ fault n p
+
+  one-more : (i j : ℕ) → first (rows i) ≡ clear → ((l : ℕ) → l < j → first (rows (suc i + l)) ≡ clear)
+      → (l : ℕ) → l < suc j → first (rows (i + l)) ≡ clear
+  one-more i j h f zero o = rw add-zero h
+  one-more i j h f (suc l) o = rw (add-suc, ← suc-add) (f l (omega arith))
+
+  from-which : (i k : ℕ) {n p : ℕ} → first (rowsFrom rows i k) ≡ fault n p → Which i k n p
+  unfolding rowsFrom
+  from-which i zero e = absurd (no-rows e)
+  from-which i (suc k) {n} {p} e =
+      ⊎-elim {C = Which i (suc k) n p}
+      (λ h. record { index = 0; within = omega arith; earlier = λ l o. absurd (omega arith); given = rw add-zero h })
+      (λ h.
+      let w = from-which (suc i) k (h .1) in
+      record {
+        index = suc (w .index);
+        within = omega (arith, w .within);
+        earlier = one-more i (w .index) (h .0) (w .earlier);
+        given = rw (add-suc, ← suc-add) (w .given);
+      })
+      (append-either (rows i) (rowsFrom rows (suc i) k) e)
+
   -- none is there where none of any index is
   pub each-clear : (m : ℕ) → ((i : ℕ) → i < m → first (rows i) ≡ clear) → first (inTurn m rows) ≡ clear
   each-clear m h = from-clear 0 m (λ l o. rw zero-add (h l o))
@@ -138,6 +191,9 @@ module _ (rows : ℕ → List Row) where
   -- the first is that of the lowest index that has one
   pub each-at : (m j : ℕ) {n p : ℕ} → j < m → ((i : ℕ) → i < j → first (rows i) ≡ clear) → first (rows j) ≡ fault n p → first (inTurn m rows) ≡ fault n p
   each-at m j o h e = from-at 0 m j o (λ l q. rw zero-add (h l q)) (rw zero-add e)
+
+  pub each-which : (m : ℕ) {n p : ℕ} → first (inTurn m rows) ≡ fault n p → Which 0 m n p
+  each-which m e = from-which 0 m e
 
 -- what a loop over the indexes keeps: none before i has a fault
 pub record Passed (rows : ℕ → List Row) (i : ℕ) : Type 0 where
@@ -174,6 +230,14 @@ module _ (n m : ℕ) (test : ℕ → Bool) where
     pub test-missed : m ≤ x → first (eachRow n m test) ≡ clear
     test-missed h = test-clear (missed test m (none test 0 m x found h))
 
+-- one row for the lowest index, as a search finds it
+module _ (n : ℕ) (place : ℕ → ℕ) (test : ℕ → Bool) (from to : ℕ) (rs : List Row) (x : ℕ) (found : x ≡ firstIn test from to) where
+  pub lowest-found : x < to → first (lowestRow n place test from to ∷ rs) ≡ fault n (place x)
+  lowest-found h = row-there (lowestRow n place test from to) rs (some test from to x found h) ∙ ap (λ i. fault n (place i)) (sym found)
+
+  pub lowest-missed : to ≤ x → first (lowestRow n place test from to ∷ rs) ≡ first rs
+  lowest-missed h = row-passed (lowestRow n place test from to) rs (none test from to x found h)
+
 -- ---- rows with other places
 
 pub first-moved : (f : ℕ → ℕ) (rs : List Row) → first (moved f rs) ≡ movedFault f (first rs)
@@ -192,6 +256,13 @@ moved-none f rs e = go (first rs) (sym (first-moved f rs) ∙ e)
     go : (g : Fault) → movedFault f g ≡ clear → g ≡ clear
     go clear q = refl
     go (fault n p) q = absurd (no-fault q refl)
+
+pub moved-some : (f : ℕ → ℕ) (rs : List Row) {n q : ℕ} → first (moved f rs) ≡ fault n q → (p : ℕ) × (first rs ≡ fault n p) × (q ≡ f p)
+moved-some f rs {n} {q} e = go (first rs) (sym (first-moved f rs) ∙ e)
+  where
+    go : (g : Fault) → movedFault f g ≡ fault n q → (p : ℕ) × (g ≡ fault n p) × (q ≡ f p)
+    go clear h = absurd (no-fault refl h)
+    go (fault m p) h = (p, ap (λ k. fault k p) (one-number refl h), sym (one-place refl h))
 
 -- ---- a number is given, with its place, exactly when its row's case is there and no case before it is
 
@@ -273,10 +344,3 @@ allow-moved ok f [] a = tt
 allow-moved ok f (r ∷ rs) a =
     let t = ok (r .number) (f (r .place)) in
     both t _ (and-left t _ a) (allow-moved ok f rs (and-right t _ a))
-
--- what is given is of the first row, or its case is not there
-pub parted :
-    {n p : ℕ} {r : Row} {rs : List Row} → Given n p (r ∷ rs) →
-    ((r .number ≡ n) × (r .place ≡ p)) ⊎ ((r .case ≡ false) × Given n p rs)
-parted (here e q c) = inl (e, q)
-parted (later c g) = inr (c, g)

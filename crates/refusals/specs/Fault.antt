@@ -3,6 +3,7 @@ use Prim.Native.Nat.{ℕ, zero, suc}
 use mathlib.Core.Bool.{Bool, true, false, cond}
 use mathlib.Core.List.{List, [], _∷_, _++_}
 use mathlib.Core.Path.{_≡_}
+use Rattle.lists.specs.Search.{firstIn, someIn}
 use Rattle.refusals.specs.declared.Finding.{Finding}
 use Rattle.refusals.specs.declared.Finding.the-variants.{Clear, Found}
 use Rattle.refusals.specs.Outcome.{Outcome, gives, refuses}
@@ -50,6 +51,10 @@ inTurn m rows = rowsFrom rows 0 m
 -- one row for each index below m, with the index as its place
 abbrev pub eachRow : ℕ → ℕ → (ℕ → Bool) → List Row
 eachRow n m test = inTurn m (λ i. row n i (test i) ∷ [])
+
+-- one row for the lowest index from `from` up to, not including, `to` at which a test holds, its place told from that index
+abbrev pub lowestRow : ℕ → (ℕ → ℕ) → (ℕ → Bool) → ℕ → ℕ → Row
+lowestRow n place test from to = row n (place (firstIn test from to)) (someIn test from to)
 
 -- the rows with other places
 unfoldable pub moved : (ℕ → ℕ) → List Row → List Row

@@ -12,17 +12,17 @@
  * Nothing is kept after the return, and there is no state between calls.
  *
  * No. | Given when                                                         | Place
- * ----+--------------------------------------------------------------------+-----------------
+ * ----+--------------------------------------------------------------------+----------------------------------------
  *   1 | page not of 512 bytes                                              | 0
- *   2 | check differs                                                      | page
- *   3 | mark or byte 3 wrong                                               | page
- *   4 | r or w above 32                                                    | page
- *   5 | 8r + 12w above 500                                                 | page
- *   6 | read keys not rising, or above 1023                                | page
- *   7 | read version of another form                                       | page
- *   8 | write keys not rising, or above 1023                               | page
- *   9 | kind neither 0 nor 1, or delete with value                         | page
- *  10 | spare byte not zero                                                | page
+ *   2 | check differs                                                      | byte 508
+ *   3 | mark or byte 3 wrong                                               | byte 0 or 3, the lower that is wrong
+ *   4 | r or w above 32                                                    | byte 1 or 2, the lower that is wrong
+ *   5 | 8r + 12w above 500                                                 | byte 1
+ *   6 | read keys not rising, or above 1023                                | first byte of the lowest bad read
+ *   7 | read version of another form                                       | that byte plus 2
+ *   8 | write keys not rising, or above 1023                               | first byte of the lowest bad write
+ *   9 | kind neither 0 nor 1, or delete with value                         | that byte plus 2
+ *  10 | spare byte not zero                                                | lowest spare byte that is not zero
  *  11 | batch over 32768 bytes or no multiple of 512                       | 0
  *  12 | state lists unequal, empty or over 1024                            | 0
  *  13 | state entry of another form, or present with block not below n     | lowest key
@@ -34,7 +34,10 @@
  *  19 | figure outside signed 64 bits                                      | 0
  *  20 | text buffer shorter than the text                                  | 0
  *
- * m is the number of pages of a batch, K the length of the state lists. Reading and writing a page give page 0.
+ * m is the number of pages of a batch, K the length of the state lists.
+ * A byte is the offset of the fault within the page. Read i starts at byte 8 + 8i, write i at 8 + 8r + 12i; of two keys that
+ * do not rise, the later is bad. Writing a page gives the byte that the count or the entry would have, whatever the index.
+ * Plan and commit give 512 times the page plus the byte: 1564 is byte 28 of page 3.
  *
  * The forms that the table speaks of:
  *   version of a read   absent, which is block 0 and place 65535; or any block with a place of 0 to 63
@@ -62,6 +65,9 @@ extern "C" {
 /* The two halves of a word. */
 #define NEVOLISCA_REFUSAL(word) ((uint32_t)((word) >> 32))
 #define NEVOLISCA_PLACE(word) ((uint32_t)(word))
+/* Of the place of a batch's refusal of 2 to 10: the page, and the byte in it. */
+#define NEVOLISCA_BAD_PAGE(word) (NEVOLISCA_PLACE(word) / NEVOLISCA_PAGE)
+#define NEVOLISCA_BAD_BYTE(word) (NEVOLISCA_PLACE(word) % NEVOLISCA_PAGE)
 #define NEVOLISCA_COUNT(word) ((uint32_t)(word))
 
 /* Sizes: the bytes of a page and of a full batch, the entries of an array, the bytes of the longest text. */
@@ -79,7 +85,7 @@ extern "C" {
 
 /* Reads the page of len bytes.
  * Lent: the page. Filled: head and all 32 entries of each array, zeros beyond r and w.
- * Returns 0, or the first refusal of 1 to 10.
+ * Returns 0, or the first refusal of 1 to 10, for 2 to 10 with the byte as its place.
  */
 uint64_t nevolisca_read_page(const uint8_t *page, size_t len,
                              uint32_t head[3],
@@ -88,7 +94,7 @@ uint64_t nevolisca_read_page(const uint8_t *page, size_t len,
 
 /* Writes a transaction as the page at an index of a batch of len bytes.
  * Lent: the index, head and the six arrays. Filled: bytes 512 * index to 512 * index + 511 of the batch; the others stay.
- * Returns 0, or the first refusal of 4 to 9, then 17.
+ * Returns 0, or the first refusal of 4 to 9, with the byte that would be wrong as its place, then 17.
  */
 uint64_t nevolisca_write_page(uint8_t *batch, size_t len, size_t index,
                               const uint32_t head[3],
@@ -102,7 +108,7 @@ uint64_t nevolisca_write_page(uint8_t *batch, size_t len, size_t index,
  *   order      the first k: the page indexes of the kept, in schedule order
  *   out        the first 512k bytes: the kept pages in that order
  * Further entries stay. Returns k, the kept count, or the first refusal of 11, 12, 13, 14, then the lowest bad page
- * with its first number of 2 to 10, then 15, then 16.
+ * with its first number of 2 to 10 and 512 times the page plus the byte as its place, then 15, then 16.
  */
 uint64_t nevolisca_plan(const uint8_t *batch, size_t len,
                         const uint32_t *blocks, size_t blocks_len,

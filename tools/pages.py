@@ -1,7 +1,7 @@
 #!/usr/bin/env python3
 """tools/pages.py NAME > FILE: writes the standard input of a run of the listing program, from document 01's page layout.
 
-NAME is listing, refused, empty, too_long or correction. The expected listings stand in crates/listing/stdout and tests/listing/NAME/stdout.
+NAME is listing, refused, byte, empty, too_long or correction. The expected listings stand in crates/listing/stdout and tests/listing/NAME/stdout.
 """
 import sys
 
@@ -34,11 +34,21 @@ def listing():
 
 
 def refused():
-    """The same five pages with one bit of page 3 changed: its check differs, so 2 at page 3."""
+    """The same five pages with one bit of page 3 changed: its check differs, so 2 at 3 * 512 + 508 = 2044."""
     pages = listing()
     third = bytearray(pages[3])
     third[20] ^= 1
     pages[3] = bytes(third)
+    return pages
+
+
+def byte():
+    """The same five pages, but page 3 puts on key 5 twice: 8 at its second write, 3 * 512 + 8 + 8 + 12 = 1564.
+
+    By E1 it is the first byte of the lowest bad entry, of two keys that do not rise the later. One read stands before.
+    """
+    pages = listing()
+    pages[3] = page(40, reads=[(7, ABSENT)], puts=[(5, 1), (5, 2)])
     return pages
 
 
@@ -75,7 +85,7 @@ def correction():
     ]
 
 
-RUNS = {"listing": listing, "refused": refused, "empty": list, "too_long": too_long, "correction": correction}
+RUNS = {"listing": listing, "refused": refused, "byte": byte, "empty": list, "too_long": too_long, "correction": correction}
 
 if __name__ == "__main__":
     if len(sys.argv) != 2 or sys.argv[1] not in RUNS:

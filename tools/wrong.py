@@ -9,7 +9,8 @@ An edit has the form of one in must-fail/ (file:, old:, new:) and one line more:
 
 the declaration, below the crate's proofs/, whose proof must be the first that fails. The crate is checked once as it is,
 then with each edit, in a copy and over an incremental folder: an edit costs seconds and not a check of its whole crate.
-The copy takes what is proved already from target/; run `rt check` before, or it is proved there.
+The copy takes what is proved already from target/; run `rt check` before, or it is proved there. A few edits at a time have
+a copy of that copy, so that the edits of one crate are tried side by side.
 """
 import concurrent.futures
 import pathlib
@@ -21,6 +22,7 @@ import tempfile
 
 ROOT = pathlib.Path(__file__).resolve().parent.parent
 AT_ONCE = 2
+SHARE = 7  # the most edits that are tried in one copy
 ERROR = re.compile(r"^(\S+?):\d+:\d+: error: `([^`]+)`")
 
 
@@ -86,18 +88,31 @@ def try_edit(place, crate, edit):
             path.write_text(text)
 
 
-def try_crate(crate, edits):
-    """One line for each edit of a crate, and how many did not come out as they say."""
+def try_edits(place, crate, edits):
+    """One line for each of these edits of a crate that is proved in a place, and how many did not come out as they say."""
+    said, failed = [], 0
     with tempfile.TemporaryDirectory() as work:
-        place = copy_of(crate, work)
-        if not check(place, crate)[0]:
-            return [f"wrong {crate}: not proved as it is"], 1
-        said, failed = [], 0
+        own = pathlib.Path(shutil.copytree(place, pathlib.Path(work) / crate))
         for edit in edits:
-            what = try_edit(place, crate, edit)
+            what = try_edit(own, crate, edit)
             failed += what is not None
             said.append(f"wrong {crate}/{edit.stem}: " + (what or "refused by " + " ".join(parse(edit)[1])))
-        return said, failed
+    return said, failed
+
+
+def try_all(found):
+    """What try_edits says of every crate's edits: each crate is checked as it is, then its edits are shared out."""
+    with tempfile.TemporaryDirectory() as work, concurrent.futures.ThreadPoolExecutor(AT_ONCE) as pool:
+        places = {crate: copy_of(crate, work) for crate in found}
+        proved = dict(zip(found, pool.map(lambda crate: check(places[crate], crate)[0], found)))
+        parts = [
+            (places[crate], crate, edits[at : at + SHARE])
+            for crate, edits in found.items()
+            if proved[crate]
+            for at in range(0, len(edits), SHARE)
+        ]
+        unproved = [([f"wrong {crate}: not proved as it is"], len(found[crate])) for crate in found if not proved[crate]]
+        return unproved + list(pool.map(lambda part: try_edits(*part), parts))
 
 
 def main(crate=None, *names):
@@ -105,8 +120,7 @@ def main(crate=None, *names):
     for edit in sorted(ROOT.glob("crates/*/wrong/*.edit")):
         if crate in (None, edit.parts[-3]) and (not names or edit.stem in names):
             found.setdefault(edit.parts[-3], []).append(edit)
-    with concurrent.futures.ThreadPoolExecutor(AT_ONCE) as pool:
-        results = list(pool.map(lambda item: try_crate(*item), found.items()))
+    results = try_all(found)
     for said, _ in results:
         print("\n".join(said))
     tried = sum(len(edits) for edits in found.values())

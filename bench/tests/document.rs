@@ -1,4 +1,4 @@
-//! Document 01's own worked cases, asked of both opinions.
+//! Document 01's own worked cases and the offsets of document 02's E1, asked of both opinions.
 #![forbid(unsafe_code)]
 
 use nevolisca_bench::answer::{Answer, Refusal};
@@ -51,6 +51,23 @@ fn page(ticket: u32, reads: &[Read], writes: &[Write]) -> Result<Vec<u8>, Refusa
     assert_eq!(ours, theirs);
     assert_eq!(second::read_page(&ours), Ok(transaction));
     Ok(ours)
+}
+
+/// What both answer to a page with some bytes changed, and the page; its check belongs to them, unless it is changed too.
+fn read_changed(page: &[u8], changes: &[(usize, u8)]) -> (Answer, Vec<u8>) {
+    let mut page = page.to_vec();
+    changes.iter().for_each(|&(at, byte)| page[at] = byte);
+    let weights = (1..).zip(&page[..508]);
+    let check: u32 = weights
+        .map(|(weight, &byte)| weight * u32::from(byte))
+        .sum();
+    if changes.iter().all(|(at, _)| *at < 508) {
+        page[508..].copy_from_slice(&check.to_le_bytes());
+    }
+    let mut into = node::Transaction::EMPTY;
+    let answer = node::read_page(&page, into.parts_mut());
+    assert_eq!(answer, second::read_page(&page).map(|_| 0));
+    (answer, page)
 }
 
 fn pages(list: &[(u32, &[Read], &[Write])]) -> Vec<u8> {
@@ -169,10 +186,47 @@ fn what_fits_on_a_page() {
     assert!(page(1, &reads[..25], &writes[..25]).is_ok());
     assert_eq!(
         page(1, &reads[..26], &writes[..25]).map(|_| 0),
-        refused(5, 0)
+        refused(5, 1)
     );
     assert!(page(1, &reads, &writes[..20]).is_ok());
-    assert_eq!(page(1, &reads, &writes[..21]).map(|_| 0), refused(5, 0));
+    assert_eq!(page(1, &reads, &writes[..21]).map(|_| 0), refused(5, 1));
+}
+
+#[test]
+fn the_byte_of_each_fault() {
+    let good = page(40, &[read(7)], &[put(5, 1), put(6, 2)]).expect("good");
+    for (changes, number, place) in [
+        (&[(508, good[508] ^ 1)][..], 2, 508),
+        (&[(0, 0), (3, 1)], 3, 0),
+        (&[(3, 1)], 3, 3),
+        (&[(1, 33), (2, 33)], 4, 1),
+        (&[(2, 33)], 4, 2),
+        (&[(1, 32), (2, 32)], 5, 1),
+        (&[(9, 4)], 6, 8),
+        (&[(10, 64)], 7, 10),
+        (&[(28, 5)], 8, 28),
+        (&[(16, 6)], 8, 28),
+        (&[(30, 2)], 9, 30),
+        (&[(507, 1), (40, 1)], 10, 40),
+    ] {
+        let (answer, wrong) = read_changed(&good, changes);
+        assert_eq!(answer, refused(number, place));
+        let batch = [&page(1, &[], &[]).expect("good")[..], &wrong, &wrong].concat();
+        let ledger = Ledger::absent(8, 1);
+        assert_eq!(plan(&batch, &ledger).0, refused(number, 512 + place));
+        assert_eq!(commit(&batch, &ledger).0, refused(number, 512 + place));
+    }
+}
+
+#[test]
+fn the_byte_that_an_entry_would_have() {
+    let twice = [put(5, 1), put(5, 2)];
+    assert_eq!(page(1, &[], &twice), Err(second_write(8 + 12)));
+    assert_eq!(page(1, &[read(7)], &twice), Err(second_write(8 + 8 + 12)));
+}
+
+fn second_write(place: u32) -> Refusal {
+    Refusal { number: 8, place }
 }
 
 #[test]

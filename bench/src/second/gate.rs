@@ -1,5 +1,6 @@
 //! The gate that plan and commit share: 11 to 14, the pages, 15 and 16.
 
+use super::offset;
 use super::page::{Page, PAGE};
 use super::reason::Reason;
 use super::state::State;
@@ -30,11 +31,14 @@ pub fn gate<'a>(
     }
 }
 
-/// Every page checked; the lowest bad one with its first number of 2 to 10.
+/// Every page checked; the lowest bad one with its first number of 2 to 10, at the fault's offset in the batch.
 fn check_pages(batch: &[u8]) -> Result<Vec<Page<'_>>, Refusal> {
+    let place = |index, bytes, reason| index * PAGE + offset::on_page(reason, bytes);
     let pages = batch.chunks_exact(PAGE).enumerate();
     pages
-        .map(|(index, bytes)| Page::check(bytes).map_err(|reason| reason.at(index)))
+        .map(|(index, bytes)| {
+            Page::check(bytes).map_err(|reason| reason.at(place(index, bytes, reason)))
+        })
         .collect()
 }
 

@@ -1,8 +1,9 @@
-//! The second opinion: all six services in plain safe Rust, written from document 01 alone.
+//! The second opinion: all six services in plain safe Rust, written from documents 01 and 02 alone.
 #![forbid(unsafe_code)]
 
 mod commit;
 mod gate;
+mod offset;
 mod page;
 mod plan;
 mod reason;

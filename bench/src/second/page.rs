@@ -1,5 +1,6 @@
 //! A transaction and its page of 512 bytes.
 
+use super::offset;
 use super::reason::Reason;
 use super::state::{Version, MOST_KEYS};
 use crate::answer::Refusal;
@@ -9,15 +10,15 @@ pub const PAGE: usize = 512;
 /// The most reads, and the most writes, of a transaction.
 pub const ENTRIES: usize = 32;
 
-const MARK: u8 = 0x54;
+pub(super) const MARK: u8 = 0x54;
 /// Where mark, counts, zero and ticket end and the reads begin.
-const HEAD: usize = 8;
-const READ: usize = 8;
-const WRITE: usize = 12;
+pub(super) const HEAD: usize = 8;
+pub(super) const READ: usize = 8;
+pub(super) const WRITE: usize = 12;
 /// The most bytes of reads and writes together.
 const ROOM: usize = 500;
 /// Where the check stands; it sums the bytes before.
-const CHECK_AT: usize = 508;
+pub(super) const CHECK_AT: usize = 508;
 
 const PUT: u16 = 0;
 const DELETE: u16 = 1;
@@ -43,7 +44,7 @@ impl Write {
         self.kind == DELETE
     }
 
-    fn has_form(&self) -> bool {
+    pub(super) fn has_form(&self) -> bool {
         self.kind == PUT || self.kind == DELETE && self.value == 0
     }
 }
@@ -170,7 +171,7 @@ fn u32_at(bytes: &[u8], at: usize) -> u32 {
     u32::from_le_bytes(bytes[at..at + 4].try_into().expect("four bytes"))
 }
 
-fn read_of(entry: &[u8]) -> Read {
+pub(super) fn read_of(entry: &[u8]) -> Read {
     let (place, block) = (u16_at(entry, 2), u32_at(entry, 4));
     Read {
         key: u16_at(entry, 0),
@@ -178,7 +179,7 @@ fn read_of(entry: &[u8]) -> Read {
     }
 }
 
-fn write_of(entry: &[u8]) -> Write {
+pub(super) fn write_of(entry: &[u8]) -> Write {
     Write {
         key: u16_at(entry, 0),
         kind: u16_at(entry, 2),
@@ -186,12 +187,12 @@ fn write_of(entry: &[u8]) -> Write {
     }
 }
 
-/// Reads a page as a value, or refuses with 1 to 10.
+/// Reads a page as a value, or refuses with 1, or with 2 to 10 at the fault's offset.
 pub fn read_page(bytes: &[u8]) -> Result<Transaction, Refusal> {
     if bytes.len() != PAGE {
         return Err(Reason::PageLength.at(0));
     }
-    let page = Page::check(bytes).map_err(|reason| reason.at(0))?;
+    let page = Page::check(bytes).map_err(|reason| reason.at(offset::on_page(reason, bytes)))?;
     let mut transaction = Transaction {
         read_count: u32::from(bytes[1]),
         write_count: u32::from(bytes[2]),
@@ -207,13 +208,15 @@ pub fn read_page(bytes: &[u8]) -> Result<Transaction, Refusal> {
     Ok(transaction)
 }
 
-/// Writes a transaction as the page at an index of a batch, or refuses with 4 to 9, then 17.
+/// Writes a transaction as the page at an index of a batch, or refuses with 4 to 9 at the offset that the entry would
+/// have, then 17.
 pub fn write_page(
     batch: &mut [u8],
     index: usize,
     transaction: &Transaction,
 ) -> Result<(), Refusal> {
-    let (reads, writes) = entries(transaction).map_err(|reason| reason.at(0))?;
+    let (reads, writes) = entries(transaction)
+        .map_err(|reason| reason.at(offset::of_transaction(reason, transaction)))?;
     let page = batch.chunks_exact_mut(PAGE).nth(index);
     let page = page.ok_or(Reason::PageIndex.at(0))?;
     page.fill(0);

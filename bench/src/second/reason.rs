@@ -28,7 +28,7 @@ pub enum Reason {
 }
 
 impl Reason {
-    /// The refusal at a page or key.
+    /// The refusal at an offset, a page or a key.
     pub fn at(self, place: usize) -> Refusal {
         Refusal {
             number: self as u32,

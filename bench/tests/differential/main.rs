@@ -7,6 +7,7 @@ mod guarded;
 mod noticed;
 mod outcome;
 mod pages;
+mod places;
 mod tally;
 mod texts;
 
@@ -40,6 +41,8 @@ fn the_two_opinions_agree() {
     }
     pages::write_pages(&mut random, &mut tally, WRITE_PAGES);
     batches::batches(&mut random, &mut tally, BATCHES);
+    places::pages(&mut random, &mut Some(&mut tally));
+    places::batches(&mut random, &mut Some(&mut tally));
     batches::all_of_three(&mut tally);
     batches::all_of_four(&mut tally);
     texts::all_short_texts(&mut tally);

@@ -1,11 +1,12 @@
 //! The comparison can fail: every single wrong answer, byte or canary is noticed.
 
-use crate::cases::{Commit, Lists, Plan};
+use crate::cases::{Commit, Lists, Plan, ReadPage};
 use crate::guarded::Guarded;
 use crate::outcome::{compare, Case, Outcome};
-use crate::pages::lay;
+use crate::pages::{lay, mend};
 use crate::tally::Tally;
 use nevolisca_bench::answer::Refusal;
+use nevolisca_bench::node;
 use nevolisca_bench::second::{Read, Version, Write, PAGE};
 
 /// Ticket 9 puts on key 1, ticket 4 reads it: both are kept, the reader first.
@@ -150,4 +151,40 @@ fn a_commit_that_looks_at_the_start_only_fails_the_run() {
 #[test]
 fn a_run_that_misses_a_number_is_noticed() {
     assert!(!Tally::default().faults().is_empty());
+}
+
+/// The second opinion, asked twice.
+#[derive(Debug)]
+struct Twice(ReadPage);
+
+impl Case for Twice {
+    const SERVICE: crate::outcome::Service = ReadPage::SERVICE;
+
+    fn lent(&self) -> crate::outcome::Lent {
+        self.0.lent()
+    }
+
+    fn by_node(&self) -> Outcome {
+        self.0.by_second()
+    }
+
+    fn by_second(&self) -> Outcome {
+        self.0.by_second()
+    }
+}
+
+#[test]
+fn a_run_that_misses_a_place_is_noticed() {
+    let mut tally = Tally::default();
+    let mut page = lay(1, &[], &[]);
+    for (at, missed) in [(3, true), (0, false)] {
+        page[at] = 1;
+        mend(&mut page);
+        tally.run(&Twice(ReadPage {
+            page: page.clone(),
+            into: node::Transaction::EMPTY,
+        }));
+        let told = "read page: number 3 not at each of its places".to_string();
+        assert_eq!(tally.faults().contains(&told), missed);
+    }
 }

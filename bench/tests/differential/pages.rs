@@ -25,10 +25,10 @@ const COUNTS: [(usize, usize); 10] = [
     (0, 1),
 ];
 const EDGE_KEYS: [u16; 8] = [0, 1, 1022, 1023, 1024, 1025, 32768, 65535];
-const EDGE_PLACES: [u16; 8] = [0, 1, 62, 63, 64, 65, 65534, 65535];
+pub const EDGE_PLACES: [u16; 8] = [0, 1, 62, 63, 64, 65, 65534, 65535];
 pub const EDGE_BLOCKS: [u32; 5] = [0, 1, 4, 1 << 31, u32::MAX];
-const EDGE_KINDS: [u16; 6] = [0, 1, 2, 256, 257, 65535];
-const EDGE_VALUES: [i64; 7] = [0, 1, -1, 256, 1 << 56, i64::MIN, i64::MAX];
+pub const EDGE_KINDS: [u16; 6] = [0, 1, 2, 256, 257, 65535];
+pub const EDGE_VALUES: [i64; 7] = [0, 1, -1, 256, 1 << 56, i64::MIN, i64::MAX];
 
 /// The value of a good write of a kind: a delete has none.
 pub fn value_of(random: &mut Random, kind: u16) -> i64 {
@@ -51,7 +51,7 @@ pub fn version(random: &mut Random) -> Version {
 }
 
 /// So many reads and writes, each good by itself.
-fn entries(random: &mut Random, r: usize, w: usize) -> (Vec<Read>, Vec<Write>) {
+pub fn entries(random: &mut Random, r: usize, w: usize) -> (Vec<Read>, Vec<Write>) {
     let mut keys = |count| {
         let end = random.pick(&[MOST_KEYS, MOST_KEYS, 64]);
         let mut keys = random.rising(count, end);
@@ -146,7 +146,8 @@ fn spoil_bytes(random: &mut Random, page: &mut [u8]) {
         _ => {
             let used = HEAD + READ * usize::from(page[1]) + WRITE * usize::from(page[2]);
             let first = used.min(CHECK_AT - 1);
-            let spare = random.pick(&[first, CHECK_AT - 1, first + (CHECK_AT - first) / 2]);
+            let any = first + random.below(CHECK_AT - first);
+            let spare = random.pick(&[first, CHECK_AT - 1, any]);
             page[spare] = random.pick(&[0, 1, 128, 255]);
         }
     }
@@ -216,7 +217,7 @@ fn spoil_key(random: &mut Random, page: &mut [u8], at: usize, width: usize) {
 }
 
 /// A transaction full of anything.
-fn noise(random: &mut Random) -> node::Transaction {
+pub fn noise(random: &mut Random) -> node::Transaction {
     node::Transaction {
         head: std::array::from_fn(|_| random.word() as u32),
         read_keys: std::array::from_fn(|_| random.word() as u16),
@@ -258,13 +259,18 @@ pub fn each_byte(random: &mut Random, tally: &mut Tally) {
     }
 }
 
-/// A transaction to write: good entries at the front, anything beyond the counts.
+/// A transaction to write: good entries at the front.
 fn some_transaction(random: &mut Random) -> node::Transaction {
     let (r, w) = some_counts(random);
     let (reads, writes) = entries(random, r, w);
+    transaction_of(random, &reads, &writes)
+}
+
+/// These entries at the front, anything beyond the counts.
+pub fn transaction_of(random: &mut Random, reads: &[Read], writes: &[Write]) -> node::Transaction {
     let mut transaction = noise(random);
-    transaction.head[0] = r as u32;
-    transaction.head[1] = w as u32;
+    transaction.head[0] = reads.len() as u32;
+    transaction.head[1] = writes.len() as u32;
     for (i, read) in reads.iter().enumerate() {
         transaction.read_keys[i] = read.key;
         transaction.read_places[i] = read.version.place;
@@ -278,11 +284,14 @@ fn some_transaction(random: &mut Random) -> node::Transaction {
     transaction
 }
 
-/// Brings one entry or count of a transaction to an edge.
+/// Brings one entry, most often one that counts, or a count of a transaction to an edge.
 fn spoil_transaction(random: &mut Random, transaction: &mut node::Transaction) {
-    let at = random.below(ENTRIES);
+    let part = random.below(8);
+    let count = transaction.head[usize::from(part > 3)] as usize;
+    let end = if random.once_in(8) { ENTRIES } else { count };
+    let at = random.below(end.clamp(1, ENTRIES));
     let near = at.max(1) - 1;
-    match random.below(8) {
+    match part {
         0 => {
             transaction.head[random.clone().below(2)] = random.pick(&[0, 20, 32, 33, 256, u32::MAX])
         }

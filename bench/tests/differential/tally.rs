@@ -1,6 +1,9 @@
-//! Counts of every answer by service and number: each that document 01 names must occur, and no other may.
+//! Counts of every answer by service, number and place: each that the documents name must occur, and no other may.
 
 use crate::outcome::{compare, Case, Service};
+use crate::places::{offsets, AT_A_BYTE, MOST_PAGES};
+use nevolisca_bench::second::PAGE;
+use std::collections::BTreeSet;
 use std::ops::RangeInclusive;
 
 /// The highest refusal number.
@@ -26,10 +29,11 @@ fn named(service: Service) -> &'static [RangeInclusive<usize>] {
     }
 }
 
-/// How often each service gave each number, 0 for an answer that is no refusal.
+/// How often each service gave each number, 0 for an answer that is no refusal, and at which places.
 #[derive(Default)]
 pub struct Tally {
     counts: [[u64; LAST + 1]; SERVICES.len()],
+    places: [[BTreeSet<usize>; LAST + 1]; SERVICES.len()],
     verdicts: [[u64; 4]; SERVICES.len()],
 }
 
@@ -41,10 +45,16 @@ impl Tally {
             panic!("{:?}: {difference}\n{case:?}", C::SERVICE);
         }
         let row = C::SERVICE as usize;
-        let number = node.answer.map_or_else(|refusal| refusal.number, |_| 0);
-        self.counts[row][number as usize] += 1;
-        if number == 0 {
-            self.count_verdicts(row, &node.lent);
+        match node.answer {
+            Ok(_) => {
+                self.counts[row][0] += 1;
+                self.count_verdicts(row, &node.lent);
+            }
+            Err(refusal) => {
+                let number = refusal.number as usize;
+                self.counts[row][number] += 1;
+                self.places[row][number].insert(refusal.place as usize);
+            }
         }
     }
 
@@ -53,7 +63,7 @@ impl Tally {
         let (Some((_, batch)), Some((_, verdicts))) = (list("batch"), list("verdicts")) else {
             return;
         };
-        for &verdict in &verdicts[..batch.len() / nevolisca_bench::second::PAGE] {
+        for &verdict in &verdicts[..batch.len() / PAGE] {
             self.verdicts[row][usize::from(verdict)] += 1;
         }
     }
@@ -75,6 +85,18 @@ impl Tally {
         println!("answers: commit's verdicts: passes {passes}, fails {fails}");
     }
 
+    /// Whether a number of 2 to 10 occurred at each offset that it can have and at no other, of a batch on each page.
+    fn every_place(&self, service: Service, number: usize) -> bool {
+        let places = &self.places[service as usize][number];
+        let on_page: BTreeSet<usize> = places.iter().map(|place| place % PAGE).collect();
+        let pages: BTreeSet<usize> = places.iter().map(|place| place / PAGE).collect();
+        let most = match service {
+            Service::Plan | Service::Commit => MOST_PAGES,
+            _ => 1,
+        };
+        on_page == offsets(number) && pages.into_iter().eq(0..most)
+    }
+
     /// What is missing or too much, in words.
     pub fn faults(&self) -> Vec<String> {
         let mut faults = Vec::new();
@@ -84,6 +106,13 @@ impl Tally {
                 let may = number == 0 || ranges.any(|range| range.contains(&number));
                 if may != (count > 0) {
                     faults.push(format!("{name}: number {number} occurred {count} times"));
+                }
+            }
+        }
+        for (service, name) in SERVICES {
+            for number in AT_A_BYTE.filter(|&number| self.counts[service as usize][number] > 0) {
+                if !self.every_place(service, number) {
+                    faults.push(format!("{name}: number {number} not at each of its places"));
                 }
             }
         }

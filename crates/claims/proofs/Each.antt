@@ -32,7 +32,7 @@ module _ where
   unfolding readPage checkPage first pageRows
   page-1 = refl
 
-  pub page-2 : readPage (set bytes7 508 0xc1) .answer ≡ refuses 2 0
+  pub page-2 : readPage (set bytes7 508 0xc1) .answer ≡ refuses 2 508
   unfolding readPage checkPage first pageRows wholeRows headRows countRows weighed field
   page-2 = refl
 
@@ -40,31 +40,31 @@ module _ where
   unfolding readPage checkPage first pageRows wholeRows headRows countRows weighed field le
   page-3 = refl
 
-  pub page-4 : readPage (sealed (0x54 ∷ 33 ∷ replicate 506 0)) .answer ≡ refuses 4 0
+  pub page-4 : readPage (sealed (0x54 ∷ 33 ∷ replicate 506 0)) .answer ≡ refuses 4 1
   unfolding readPage checkPage first pageRows wholeRows headRows countRows weighed field le
   page-4 = refl
 
-  pub page-5 : readPage (sealed (0x54 ∷ 26 ∷ 25 ∷ replicate 505 0)) .answer ≡ refuses 5 0
+  pub page-5 : readPage (sealed (0x54 ∷ 26 ∷ 25 ∷ replicate 505 0)) .answer ≡ refuses 5 1
   unfolding readPage checkPage first pageRows wholeRows headRows countRows weighed field le
   page-5 = refl
 
-  pub page-6 : readPage (pageOf (tx 0 (absentRead 3 ∷ absentRead 3 ∷ []) [])) .answer ≡ refuses 6 0
+  pub page-6 : readPage (pageOf (tx 0 (absentRead 3 ∷ absentRead 3 ∷ []) [])) .answer ≡ refuses 6 16
   unfolding readPage checkPage first pageRows wholeRows headRows countRows entryRows pageTx weighed field le flat tab bodyOf pageOf firstIn seek floorOf
   page-6 = refl
 
-  pub page-7 : readPage (pageOf (tx 0 (record { key = 3; version = at 4 64 } ∷ []) [])) .answer ≡ refuses 7 0
+  pub page-7 : readPage (pageOf (tx 0 (record { key = 3; version = at 4 64 } ∷ []) [])) .answer ≡ refuses 7 10
   unfolding readPage checkPage first pageRows wholeRows headRows countRows entryRows pageTx weighed field le flat tab bodyOf pageOf firstIn seek floorOf
   page-7 = refl
 
-  pub page-8 : readPage (pageOf (tx 0 [] (put 3 1 ∷ put 3 2 ∷ []))) .answer ≡ refuses 8 0
+  pub page-8 : readPage (pageOf (tx 0 [] (put 3 1 ∷ put 3 2 ∷ []))) .answer ≡ refuses 8 20
   unfolding readPage checkPage first pageRows wholeRows headRows countRows entryRows pageTx weighed field le flat tab bodyOf pageOf firstIn seek floorOf
   page-8 = refl
 
-  pub page-9 : readPage (pageOf (tx 0 [] (record { key = 3; kind = 1; value = pos 1 } ∷ []))) .answer ≡ refuses 9 0
+  pub page-9 : readPage (pageOf (tx 0 [] (record { key = 3; kind = 1; value = pos 1 } ∷ []))) .answer ≡ refuses 9 10
   unfolding readPage checkPage first pageRows wholeRows headRows countRows entryRows pageTx weighed field le flat tab bodyOf pageOf firstIn seek floorOf
   page-9 = refl
 
-  pub page-10 : readPage (sealed (0x54 ∷ replicate 506 0 ++ (1 ∷ []))) .answer ≡ refuses 10 0
+  pub page-10 : readPage (sealed (0x54 ∷ replicate 506 0 ++ (1 ∷ []))) .answer ≡ refuses 10 507
   unfolding readPage checkPage first pageRows wholeRows headRows countRows entryRows pageTx weighed field le tab firstIn seek floorOf
   page-10 = refl
 
@@ -79,6 +79,10 @@ abbrev answer : List ℕ → State → List ℕ → Outcome ℕ
 answer batch s vs = commitBatch batch s number vs .answer
 
 module _ where
+  pub batch-8 : answer (batchOf (tx 5 [] [] ∷ tx 6 (absentRead 7 ∷ []) (put 5 1 ∷ put 5 2 ∷ []) ∷ [])) fresh (replicate 2 9) ≡ refuses 8 540
+  unfolding commitBatch first rowsFrom moved gateRows frontRows stateRows pagesRows firstIn seek entry batchOf wholeRows headRows countRows entryRows pageTx weighed field le flat tab bodyOf pageOf floorOf
+  batch-8 = refl
+
   pub batch-11 : answer (replicate 511 0) fresh [] ≡ refuses 11 0
   unfolding commitBatch first gateRows frontRows stateRows
   batch-11 = refl

@@ -125,7 +125,7 @@ abbrev pub failing : List Tx
 failing = tx 1 (record { key = 2; version = at 0 0 } ∷ []) (put 2 7 ∷ []) ∷ tx 2 [] (put 4 9 ∷ []) ∷ []
 
 -- "P: "68,400" is 68400; "-0,050" is -50; "684" and "-0,000" give 18."
--- "P: ticket 7, no reads, put 68400 on key 5 .."; "P: r 25, w 25 fits exactly; r 26, w 25 is refused with 5."
+-- "P: ticket 7, no reads, put 68400 on key 5 .."; "P: r 25, w 25 fits exactly; r 26, w 25 is refused with 5.", at "1 for 5"
 -- and the four cases above, each on both pages of its batch
 abbrev pub table : List Case
 table =
@@ -135,7 +135,7 @@ table =
     text "-0,000" (refuses 18 0) ∷
     page ticket7 bytes7 ∷
     written (withCounts 25 25) (gives 0) ∷
-    written (withCounts 26 25) (refuses 5 0) ∷
+    written (withCounts 26 25) (refuses 5 1) ∷
     plan crossing 1 (2 ∷ 0 ∷ []) (1 ∷ 9 ∷ []) ∷
     plan readerFirst 2 (0 ∷ 0 ∷ []) (1 ∷ 0 ∷ []) ∷
     plan writers 2 (0 ∷ 0 ∷ []) (1 ∷ 0 ∷ []) ∷

@@ -18,7 +18,7 @@ const SIZE: usize = 4;
 // The most bytes of a case, and of the input.
 const MOST: usize = 81920;
 
-const MOST_INPUT: usize = 327680;
+const MOST_INPUT: usize = 524288;
 
 // One more.
 fn more(count: u64) -> u64 {

@@ -18,21 +18,22 @@ use Rattle.ledger.proofs.Rising.{rise}
 
 -- n entries with a key each, and a test that says which are wrong behind it; the numbers a and b of the two faults
 module _ (a b : ℕ) (key : ℕ → ℕ) (wrong : ℕ → Bool) (n : ℕ) where
-  abbrev pub twoRows : List Row
-  twoRows = row a 0 (someIn (outOfTurn key) 0 n) ∷ row b 0 (someIn wrong 0 n) ∷ []
+  -- the two rows, at any places
+  abbrev pub twoRows : ℕ → ℕ → List Row
+  twoRows s t = row a s (someIn (outOfTurn key) 0 n) ∷ row b t (someIn wrong 0 n) ∷ []
 
-  first-there : someIn (outOfTurn key) 0 n ≡ true → false ≡ isClear (first twoRows)
+  first-there : (s t : ℕ) → someIn (outOfTurn key) 0 n ≡ true → false ≡ isClear (first (twoRows s t))
   unfolding first
-  first-there e = rw e
+  first-there s t e = rw e
 
-  second-there : (c : Bool) → someIn wrong 0 n ≡ true → false ≡ isClear (first (row a 0 c ∷ row b 0 (someIn wrong 0 n) ∷ []))
+  second-there : (s t : ℕ) (c : Bool) → someIn wrong 0 n ≡ true → false ≡ isClear (first (row a s c ∷ row b t (someIn wrong 0 n) ∷ []))
   unfolding first
-  second-there true e = refl
-  second-there false e = rw e
+  second-there s t true e = refl
+  second-there s t false e = rw e
 
-  none-there : someIn (outOfTurn key) 0 n ≡ false → someIn wrong 0 n ≡ false → true ≡ isClear (first twoRows)
+  none-there : (s t : ℕ) → someIn (outOfTurn key) 0 n ≡ false → someIn wrong 0 n ≡ false → true ≡ isClear (first (twoRows s t))
   unfolding first
-  none-there e f = rw (e, f)
+  none-there s t e f = rw (e, f)
 
   -- the entries before i: none is below the least that may stand there, and none is wrong
   pub record Entering (floor i : ℕ) : Type 0 where
@@ -46,17 +47,17 @@ module _ (a b : ℕ) (key : ℕ → ℕ) (wrong : ℕ → Bool) (n : ℕ) where
   entering-begins = record { in-range = omega arith; floor-is = refl; floors = λ j h. absurd (omega arith); right = λ j h. absurd (omega arith) }
 
   -- no entries are good
-  pub empty-good : n ≡ 0 → true ≡ isClear (first twoRows)
-  empty-good z = none-there (none-at (outOfTurn key) n (λ i h. absurd (omega arith))) (none-at wrong n (λ i h. absurd (omega arith)))
+  pub empty-good : (s t : ℕ) → n ≡ 0 → true ≡ isClear (first (twoRows s t))
+  empty-good s t z = none-there s t (none-at (outOfTurn key) n (λ i h. absurd (omega arith))) (none-at wrong n (λ i h. absurd (omega arith)))
 
   -- k is the key of the entry
   module _ (i k : ℕ) (is : k ≡ key i) (less : i < n) where
-    pub too-high : 1023 < k → false ≡ isClear (first twoRows)
-    too-high h = first-there (some-at (outOfTurn key) n i less (or-second (ltb (key i) (floorOf key i)) _ (lt-ltb 1023 (key i) (omega arith))))
+    pub too-high : (s t : ℕ) → 1023 < k → false ≡ isClear (first (twoRows s t))
+    too-high s t h = first-there s t (some-at (outOfTurn key) n i less (or-second (ltb (key i) (floorOf key i)) _ (lt-ltb 1023 (key i) (omega arith))))
 
     module _ (floor : ℕ) (e : Entering floor i) where
-      pub falls : k < floor → false ≡ isClear (first twoRows)
-      falls h = first-there (some-at (outOfTurn key) n i less (or-first (ltb (key i) (floorOf key i)) _ (lt-ltb (key i) (floorOf key i) (omega (arith, e .floor-is)))))
+      pub falls : (s t : ℕ) → k < floor → false ≡ isClear (first (twoRows s t))
+      falls s t h = first-there s t (some-at (outOfTurn key) n i less (or-first (ltb (key i) (floorOf key i)) _ (lt-ltb (key i) (floorOf key i) (omega (arith, e .floor-is)))))
 
       pub entering-turns : (next : ℕ) → floor ≤ k → wrong i ≡ false → next ≡ k + 1 → Entering next (i + 1)
       entering-turns next h w up = record {
@@ -66,12 +67,12 @@ module _ (a b : ℕ) (key : ℕ → ℕ) (wrong : ℕ → Bool) (n : ℕ) where
         right = λ j l. let o : j ≤ i = omega arith in ⊎-elim {C = wrong j ≡ false} (λ q. rw q w) (e .right j) (eq-or-lt-of-le o);
       }
 
-    pub is-wrong : wrong i ≡ true → false ≡ isClear (first twoRows)
-    is-wrong w = second-there _ (some-at wrong n i less w)
+    pub is-wrong : (s t : ℕ) → wrong i ≡ true → false ≡ isClear (first (twoRows s t))
+    is-wrong s t w = second-there s t _ (some-at wrong n i less w)
 
   -- where the last key is at most 1023, all are
-  pub entering-ends : (floor i top : ℕ) → Entering floor i → n ≤ i → top ≡ key (n - 1) → top ≤ 1023 → true ≡ isClear (first twoRows)
-  entering-ends floor i top e h is low =
+  pub entering-ends : (s t floor i top : ℕ) → Entering floor i → n ≤ i → top ≡ key (n - 1) → top ≤ 1023 → true ≡ isClear (first (twoRows s t))
+  entering-ends s t floor i top e h is low =
       let floors : (j : ℕ) → j < n → floorOf key j ≤ key j = λ j l. e .floors j (omega arith) in
       let small : (j : ℕ) → j < n → key j ≤ 1023 =
       λ j l.
@@ -79,6 +80,6 @@ module _ (a b : ℕ) (key : ℕ → ℕ) (wrong : ℕ → Bool) (n : ℕ) where
       (λ q. let f : key j ≡ key (n - 1) = ap key (omega arith) in omega arith)
       (λ m. omega (arith, rise key n floors j (n - 1) (omega arith) (omega arith)))
       (eq-or-lt-of-le l) in
-      none-there
+      none-there s t
       (none-at (outOfTurn key) n (λ j l. rw (le-ltb _ _ (floors j l), le-ltb _ _ (small j l))))
       (none-at wrong n (λ j l. e .right j (omega arith)))

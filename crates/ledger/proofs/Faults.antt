@@ -40,9 +40,9 @@ pub record Roomy (r w : ℕ) : Type 0 where
 pub roomy : (r w : ℕ) → first (countRows r w) ≡ clear → Roomy r w
 unfolding countRows
 roomy r w e =
-    let four = row-none _ _ e in
-    let counts = or-none (ltb 32 r) (ltb 32 w) (four .0) in
-    record { few-reads = ltb-false 32 r (counts .0); few-writes = ltb-false 32 w (counts .1); room = ltb-false 500 (size r w) (row-none _ _ (four .1) .0) }
+    let reads = row-none _ _ e in
+    let writes = row-none _ _ (reads .1) in
+    record { few-reads = ltb-false 32 r (reads .0); few-writes = ltb-false 32 w (writes .0); room = ltb-false 500 (size r w) (row-none _ _ (writes .1) .0) }
 
 -- ---- 1 to 5
 
@@ -63,13 +63,13 @@ unfolding headRows
 headed p e =
     let one = row-none _ _ e in
     let two = row-none _ _ (one .1) in
-    let three = row-none _ _ (two .1) in
-    let marks = and-both _ _ (not-false (eqb (getD p 0 0) 0x54 && eqb (getD p 3 0) 0) (three .0)) in
+    let mark = row-none _ _ (two .1) in
+    let three = row-none _ _ (mark .1) in
     record {
       long = eqb-true _ _ (not-false (eqb (length p) 512) (one .0));
       sum = eqb-true _ _ (not-false (eqb (weighed p 508) (field p 508 4)) (two .0));
-      mark = eqb-true _ _ (marks .0);
-      three = eqb-true _ _ (marks .1);
+      mark = eqb-true _ _ (not-false (eqb (getD p 0 0) 0x54) (mark .0));
+      three = eqb-true _ _ (not-false (eqb (getD p 3 0) 0) (three .0));
       counts = three .1;
     }
 
@@ -86,7 +86,7 @@ module _ (p : List ℕ) where
   is-one h = rw (ne-eqb _ _ h)
 
   module _ (long : length p ≡ 512) where
-    pub is-two : (weighed p 508 ≡ field p 508 4 → ⊥) → fault 2 0 ≡ headFault p
+    pub is-two : (weighed p 508 ≡ field p 508 4 → ⊥) → fault 2 508 ≡ headFault p
     unfolding headRows first
     is-two h = rw (eq-eqb _ _ long, ne-eqb _ _ h)
 
@@ -96,56 +96,13 @@ module _ (p : List ℕ) where
       is-mark h = rw (eq-eqb _ _ long, eq-eqb _ _ sum, ne-eqb _ _ h)
 
       module _ (mark : getD p 0 0 ≡ 0x54) where
-        pub is-three : (getD p 3 0 ≡ 0 → ⊥) → fault 3 0 ≡ headFault p
+        pub is-three : (getD p 3 0 ≡ 0 → ⊥) → fault 3 3 ≡ headFault p
         unfolding headRows first
         is-three h = rw (eq-eqb _ _ long, eq-eqb _ _ sum, eq-eqb _ _ mark, ne-eqb _ _ h)
 
         pub is-counts : getD p 3 0 ≡ 0 → first (countRows (readCount p) (writeCount p)) ≡ headFault p
         unfolding headRows first
         is-counts h = rw (eq-eqb _ _ long, eq-eqb _ _ sum, eq-eqb _ _ mark, eq-eqb _ _ h)
-
--- ---- 6 to 9
-
--- what a search found, against the count
-module _ (bad : ℕ → Bool) (to n x : ℕ) (count : n ≡ to) where
-  pub some-of : x ≡ firstIn bad 0 to → x < n → someIn bad 0 to ≡ true
-  some-of found h = some bad 0 to x found (rw count at h)
-
-  pub none-of : x ≡ firstIn bad 0 to → n ≤ x → someIn bad 0 to ≡ false
-  none-of found h = none bad 0 to x found (rw count at h)
-
-module _ (x : Tx) where
-  abbrev pub six : Bool
-  six = someIn (outOfTurn (λ i. readOf (x .reads) i .key)) 0 (length (x .reads))
-
-  abbrev pub seven : Bool
-  seven = someIn (λ i. wrongVersion (readOf (x .reads) i .version)) 0 (length (x .reads))
-
-  abbrev pub eight : Bool
-  eight = someIn (outOfTurn (λ i. writeOf (x .writes) i .key)) 0 (length (x .writes))
-
-  abbrev pub nine : Bool
-  nine = someIn (λ i. wrongKind (writeOf (x .writes) i)) 0 (length (x .writes))
-
-  pub is-six : six ≡ true → fault 6 0 ≡ first (entryRows x)
-  unfolding entryRows first
-  is-six a = rw a
-
-  pub is-seven : six ≡ false → seven ≡ true → fault 7 0 ≡ first (entryRows x)
-  unfolding entryRows first
-  is-seven a b = rw (a, b)
-
-  pub is-eight : six ≡ false → seven ≡ false → eight ≡ true → fault 8 0 ≡ first (entryRows x)
-  unfolding entryRows first
-  is-eight a b c = rw (a, b, c)
-
-  pub is-nine : six ≡ false → seven ≡ false → eight ≡ false → nine ≡ true → fault 9 0 ≡ first (entryRows x)
-  unfolding entryRows first
-  is-nine a b c d = rw (a, b, c, d)
-
-  pub is-none : six ≡ false → seven ≡ false → eight ≡ false → nine ≡ false → clear ≡ first (entryRows x)
-  unfolding entryRows first
-  is-none a b c d = rw (a, b, c, d)
 
 -- ---- 1 to 10
 
@@ -187,6 +144,10 @@ module _ (p : List ℕ) where
   pub whole-bad : {n q : ℕ} → length p ≡ 512 → pageFault p ≡ fault n q → first (wholeRows p) ≡ fault n q
   unfolding pageRows
   whole-bad l e = sym (row-passed (lengthRow p) (wholeRows p) (rw l)) ∙ e
+
+  pub bad-whole : {n q : ℕ} → length p ≡ 512 → first (wholeRows p) ≡ fault n q → pageFault p ≡ fault n q
+  unfolding pageRows
+  bad-whole l e = row-passed (lengthRow p) (wholeRows p) (rw l) ∙ e
 
   pub good-whole : pageFault p ≡ clear → first (wholeRows p) ≡ clear
   unfolding pageRows

@@ -23,17 +23,17 @@ gateFault own batch s n = first (gateRows own batch s n)
 
 module _ (batch : List ℕ) (i : ℕ) where
   pub good-at : pageFault (pageAt batch i) ≡ clear → first (rowsAt batch i) ≡ clear
-  good-at e = first-moved (λ _. i) (wholeRows (pageAt batch i)) ∙ ap (movedFault (λ _. i)) (good-whole (pageAt batch i) e)
+  good-at e = first-moved (λ q. i * 512 + q) (wholeRows (pageAt batch i)) ∙ ap (movedFault (λ q. i * 512 + q)) (good-whole (pageAt batch i) e)
 
   module _ (inside : i * 512 + 512 ≤ length batch) where
     pub page-long : length (pageAt batch i) ≡ 512
     page-long = simp (length-take, length-drop) (omega arith)
 
-    pub bad-at : {n q : ℕ} → pageFault (pageAt batch i) ≡ fault n q → first (rowsAt batch i) ≡ fault n i
-    bad-at e = first-moved (λ _. i) (wholeRows (pageAt batch i)) ∙ ap (movedFault (λ _. i)) (whole-bad (pageAt batch i) page-long e)
+    pub bad-at : {n q : ℕ} → pageFault (pageAt batch i) ≡ fault n q → first (rowsAt batch i) ≡ fault n (i * 512 + q)
+    bad-at e = first-moved (λ q. i * 512 + q) (wholeRows (pageAt batch i)) ∙ ap (movedFault (λ q. i * 512 + q)) (whole-bad (pageAt batch i) page-long e)
 
     pub at-good : first (rowsAt batch i) ≡ clear → pageFault (pageAt batch i) ≡ clear
-    at-good e = whole-good (pageAt batch i) page-long (moved-none (λ _. i) (wholeRows (pageAt batch i)) e)
+    at-good e = whole-good (pageAt batch i) page-long (moved-none (λ q. i * 512 + q) (wholeRows (pageAt batch i)) e)
 
 pub all-good : (batch : List ℕ) (m : ℕ) → m * 512 ≤ length batch → first (inTurn m (rowsAt batch)) ≡ clear → (i : ℕ) → i < m → pageFault (pageAt batch i) ≡ clear
 all-good batch m h e i l = at-good batch i (omega arith) (each-none (rowsAt batch) m e i l)

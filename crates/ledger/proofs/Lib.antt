@@ -16,5 +16,6 @@ pub mod Goodness
 pub mod Zero
 pub mod Entries
 pub mod Gated
+pub mod Byte
 pub mod Tickets
 pub mod Commits

@@ -11,12 +11,12 @@ use lib.Dec.{ltb}
 use borrow.Author.Tests.{ltb-true, ltb-false, lt-ltb, le-ltb, not-false}
 use Rattle.lists.specs.Search.{someIn}
 use Rattle.lists.proofs.Searches.{missed, none-at, some-at, any-search}
-use Rattle.ledger.specs.Tx.{Tx, noRead, noWrite, readOf, writeOf, floorOf, outOfTurn, wrongKind}
+use Rattle.ledger.specs.Tx.{Tx, noRead, noWrite, readOf, writeOf, floorOf, outOfTurn, wrongVersion, wrongKind}
 use Rattle.refusals.specs.Fault.{clear, first}
 use Rattle.refusals.proofs.Rows.{row-none}
 use Rattle.ledger.specs.Page.{entryRows, pageFault, pageTx}
 use Rattle.ledger.specs.Gate.{beyond}
-use Rattle.ledger.proofs.Faults.{or-none, six, seven, eight, nine, sound}
+use Rattle.ledger.proofs.Faults.{or-none, sound}
 
 -- ---- keys of which none is out of turn
 
@@ -65,11 +65,17 @@ none-within key n k m count h = none-at (λ i. not (ltb (key i) k)) n (λ i l. a
 
 -- ---- the keys of a good page
 
+abbrev pub readKey : Tx → ℕ → ℕ
+readKey x i = readOf (x .reads) i .key
+
+abbrev pub writeKey : Tx → ℕ → ℕ
+writeKey x i = writeOf (x .writes) i .key
+
 pub record Entered (x : Tx) : Type 0 where
-  pub no-six : six x ≡ false
-  pub no-seven : seven x ≡ false
-  pub no-eight : eight x ≡ false
-  pub no-nine : nine x ≡ false
+  pub no-six : someIn (outOfTurn (readKey x)) 0 (length (x .reads)) ≡ false
+  pub no-seven : someIn (λ i. wrongVersion (readOf (x .reads) i .version)) 0 (length (x .reads)) ≡ false
+  pub no-eight : someIn (outOfTurn (writeKey x)) 0 (length (x .writes)) ≡ false
+  pub no-nine : someIn (λ i. wrongKind (writeOf (x .writes) i)) 0 (length (x .writes)) ≡ false
 
 pub entered : (x : Tx) → first (entryRows x) ≡ clear → Entered x
 unfolding entryRows
@@ -78,12 +84,6 @@ entered x e =
     let b = row-none _ _ (a .1) in
     let c = row-none _ _ (b .1) in
     record { no-six = a .0; no-seven = b .0; no-eight = c .0; no-nine = row-none _ _ (c .1) .0 }
-
-abbrev pub readKey : Tx → ℕ → ℕ
-readKey x i = readOf (x .reads) i .key
-
-abbrev pub writeKey : Tx → ℕ → ℕ
-writeKey x i = writeOf (x .writes) i .key
 
 module _ (p : List ℕ) (good : pageFault p ≡ clear) where
   pub read-keys : Rising (readKey (pageTx p)) (length (pageTx p .reads))

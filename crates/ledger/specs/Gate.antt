@@ -1,5 +1,5 @@
 -- Document 01, refusals 11 to 16: the gate of a batch, stage by stage. Assumes nothing.
-use Prim.Native.Nat.{ℕ, _/_, _%_}
+use Prim.Native.Nat.{ℕ, _+_, _*_, _/_, _%_}
 use mathlib.Core.Bool.{Bool, not, _||_}
 use mathlib.Core.List.{List, [], _∷_, _++_}
 use lib.ListN.{length}
@@ -44,9 +44,9 @@ frontRows batch s n = bytesRow batch ∷ stateRows s n
 abbrev pub lentRow : Bool → Row
 lentRow short = row 14 0 short
 
--- "the lowest bad page with its first number of 2 to 10": the rows of page i, with the page as their place
+-- "the lowest bad page with its first number of 2 to 10", at "page times 512 plus offset": the rows of page i
 abbrev pub rowsAt : List ℕ → ℕ → List Row
-rowsAt batch i = moved (λ _. i) (wholeRows (pageAt batch i))
+rowsAt batch i = moved (λ q. i * 512 + q) (wholeRows (pageAt batch i))
 
 -- "the lowest bad page with its first number of 2 to 10, then 15, then 16", under K keys
 unfoldable pub pagesRows : List ℕ → ℕ → List Row

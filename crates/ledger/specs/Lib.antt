@@ -6,5 +6,6 @@ pub mod Good
 pub mod Services
 pub mod State
 pub mod Gate
+pub mod Byte
 pub mod Commit
 pub mod Inner

@@ -61,7 +61,7 @@ indexRow index pages = row 17 0 (not (ltb index pages))
 abbrev pub laidRows : Tx → ℕ → ℕ → List Row
 laidRows x index pages = entryRows x ++ (indexRow index pages ∷ [])
 
--- "Writing a page: 4 to 9, then 17, page 0."
+-- "Writing a page: 4 to 9, then 17"
 unfoldable pub writeRows : Transaction → ℕ → ℕ → List Row
 writeRows t index pages = countRows (t .r) (t .w) ++ laidRows (valueTx t) index pages
 

@@ -44,7 +44,7 @@ pub fn front_fault(batch: &[u8], blocks: &[u32], places: &[u16], values: &[i64],
     state::state_fault(blocks, places, values, n)
 }
 
-// 2 to 10: the lowest bad page, with its first number.
+// 2 to 10: the lowest bad page, with its first number, at the byte of the batch.
 fn page_fault(batch: &[u8], m: usize) -> Finding
     requires { ⌜ (m * 512 ≤ length (now batch)) × (m ≤ 64) ⌝ }
     ensures { λ f. ⌜ finding f ≡ first (inTurn m (rowsAt (now (batch .entry)))) ⌝ }
@@ -56,7 +56,7 @@ fn page_fault(batch: &[u8], m: usize) -> Finding
             i += 1;
             continue;
         };
-        return refusals::found(refusal.number, i as u32);
+        return refusals::found(refusal.number, (i * layout::PAGE) as u32 + refusal.place);
     }
     Finding::Clear
 }

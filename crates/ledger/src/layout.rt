@@ -2,7 +2,7 @@
 ghost use mathlib.Core.Path.{_≡_};
 ghost use Prim.Native.Nat.{_+_, _*_, _≤_};
 ghost use lib.ListN.{length};
-ghost use Rattle.ledger.specs.Page.{size, pageAt};
+ghost use Rattle.ledger.specs.Page.{size, readStart, writeStart, pageAt};
 
 // "0: mark, hex 54"; "1, 2: number of reads r, of writes w"; "3: zero"; "4 to 7: ticket".
 pub const MARK: u8 = 0x54;
@@ -22,6 +22,9 @@ pub const HEAD: usize = 8;
 pub const READ: usize = 8;
 
 pub const WRITE: usize = 12;
+
+// "key 2": the bytes of a key, with which each entry begins.
+pub const KEY: usize = 2;
 
 // "8r + 12w is at most 500".
 pub const ROOM: usize = 500;
@@ -51,12 +54,28 @@ pub const NO_BLOCK: u32 = 0;
 
 pub const NO_PLACE: u16 = 65535;
 
+// Where read `i` starts.
+pub fn read_start(i: usize) -> usize
+    requires { ⌜ i ≤ 32 ⌝ }
+    ensures { λ at. ⌜ at ≡ readStart i ⌝ }
+{
+    HEAD + READ * i
+}
+
 // "then: w writes": where the writes start, behind `r` reads.
 pub fn writes_at(r: usize) -> usize
     requires { ⌜ r ≤ 32 ⌝ }
     ensures { λ at. ⌜ at ≡ 8 + 8 * r ⌝ }
 {
     HEAD + READ * r
+}
+
+// Where write `i` starts, behind `r` reads.
+pub fn write_start(r: usize, i: usize) -> usize
+    requires { ⌜ (r ≤ 32) × (i ≤ 32) ⌝ }
+    ensures { λ at. ⌜ at ≡ writeStart r i ⌝ }
+{
+    writes_at(r) + WRITE * i
 }
 
 // "up to 507: zero": where the spare bytes start, behind `r` reads and `w` writes.

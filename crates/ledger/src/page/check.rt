@@ -1,5 +1,5 @@
-// The check of a page, on the bytes where they lie. Only a page that is not good is searched for its first fault:
-// each search of the entries gives where it stopped.
+// The check of a page, on the bytes where they lie. Only a page that is not good is searched for its first fault and
+// for the byte that shows it: each search gives where it stopped.
 use crate::PageCheck;
 use crate::layout;
 use crate::page::content;
@@ -17,7 +17,7 @@ ghost use Rattle.lists.specs.Search.{firstIn};
 ghost use mathlib.Core.List.{_∷_};
 ghost use Rattle.refusals.specs.Fault.{first, finding};
 ghost use Rattle.ledger.specs.Tx.{readOf, writeOf, outOfTurn, wrongVersion, wrongKind};
-ghost use Rattle.ledger.specs.Page.{pageTx, lengthRow, headRows, entryRows};
+ghost use Rattle.ledger.specs.Page.{pageTx, lengthRow, headRows, readsRows, writesRows, entryRows};
 ghost use Rattle.ledger.specs.Inner.{Counted, keyAt};
 ghost use Rattle.ledger.specs.Services.{checked, checkPage};
 
@@ -90,13 +90,13 @@ fn head_fault(page: &[u8]) -> Finding
         return refusals::found(refusals::PAGE_LENGTH, 0);
     }
     if weight::weigh(page) != bytes::le4(page, layout::CHECK) {
-        return refusals::found(refusals::CHECK, 0);
+        return refusals::found(refusals::CHECK, layout::CHECK as u32);
     }
     if page[0] != layout::MARK {
         return refusals::found(refusals::MARK, 0);
     }
     if page[layout::ZERO] != 0 {
-        return refusals::found(refusals::MARK, 0);
+        return refusals::found(refusals::MARK, layout::ZERO as u32);
     }
     counts::count_fault(
         page[layout::READ_COUNT] as usize,
@@ -104,26 +104,56 @@ fn head_fault(page: &[u8]) -> Finding
     )
 }
 
-// 6 to 9: the entries.
+// 6 and 7: the reads. A key is told at its first byte, what stands behind it at the byte after the key.
+fn reads_fault(page: &[u8]) -> Finding
+    requires { ⌜ Counted (now page) ⌝ }
+    ensures { λ x. ⌜ finding x ≡ first (readsRows (pageTx (now (page .entry)))) ⌝ }
+{
+    let r = content::reads(page);
+    let key = first_key(page, layout::HEAD, layout::READ, r);
+    if key < r {
+        return refusals::found(refusals::READ_KEYS, layout::read_start(key) as u32);
+    }
+    let version = first_version(page);
+    if version < r {
+        let at = layout::read_start(version) + layout::KEY;
+        return refusals::found(refusals::READ_VERSION, at as u32);
+    }
+    Finding::Clear
+}
+
+// 8 and 9: the same of the writes, which stand behind the reads.
+fn writes_fault(page: &[u8]) -> Finding
+    requires { ⌜ Counted (now page) ⌝ }
+    ensures { λ x. ⌜ finding x ≡ first (writesRows (pageTx (now (page .entry)))) ⌝ }
+{
+    let r = content::reads(page);
+    let w = content::writes(page);
+    let key = first_key(page, layout::writes_at(r), layout::WRITE, w);
+    if key < w {
+        return refusals::found(refusals::WRITE_KEYS, layout::write_start(r, key) as u32);
+    }
+    let kind = first_kind(page);
+    if kind < w {
+        let at = layout::write_start(r, kind) + layout::KEY;
+        return refusals::found(refusals::WRITE_KIND, at as u32);
+    }
+    Finding::Clear
+}
+
+// 6 to 9: the entries, searched only where they are not good.
 pub(crate) fn entry_fault(page: &[u8]) -> Finding
     requires { ⌜ Counted (now page) ⌝ }
     ensures { λ x. ⌜ finding x ≡ first (entryRows (pageTx (now (page .entry)))) ⌝ }
 {
-    let r = content::reads(page);
-    let w = content::writes(page);
-    if first_key(page, layout::HEAD, layout::READ, r) < r {
-        return refusals::found(refusals::READ_KEYS, 0);
+    if good::entries_good(page) {
+        return Finding::Clear;
     }
-    if first_version(page) < r {
-        return refusals::found(refusals::READ_VERSION, 0);
+    let found = reads_fault(page);
+    if let Finding::Found { refusal: _ } = found {
+        return found;
     }
-    if first_key(page, layout::writes_at(r), layout::WRITE, w) < w {
-        return refusals::found(refusals::WRITE_KEYS, 0);
-    }
-    if first_kind(page) < w {
-        return refusals::found(refusals::WRITE_KIND, 0);
-    }
-    Finding::Clear
+    writes_fault(page)
 }
 
 // The exact check: the tests in turn, up to the first that fails.
@@ -141,10 +171,11 @@ fn exactly(page: &[u8]) -> PageCheck
     let reads = content::reads(page);
     let writes = content::writes(page);
     let spare = layout::spare_at(reads, writes);
-    if bytes::any_set(page, spare, layout::CHECK) {
+    let set = bytes::first_set(page, spare, layout::CHECK);
+    if set < layout::CHECK {
         let refusal = Refusal {
             number: refusals::SPARE_BYTE,
-            place: 0,
+            place: set as u32,
         };
         return PageCheck::Bad { refusal };
     }

@@ -41,7 +41,7 @@ pub fn read(page: &[u8], i: usize) -> Read
     requires { ⌜ i < length (pageTx (now page) .reads) ⌝ }
     ensures { λ x. ⌜ x ≡ readOf (pageTx (now (page .entry)) .reads) i ⌝ }
 {
-    let at = layout::HEAD + layout::READ * i;
+    let at = layout::read_start(i);
     let place = bytes::le2(page, at + 2);
     let block = bytes::le4(page, at + 4);
     Read {
@@ -68,5 +68,5 @@ pub fn write(page: &[u8], i: usize) -> Write
     requires { ⌜ i < length (pageTx (now page) .writes) ⌝ }
     ensures { λ x. ⌜ x ≡ writeOf (pageTx (now (page .entry)) .writes) i ⌝ }
 {
-    write_at(page, layout::writes_at(reads(page)) + layout::WRITE * i)
+    write_at(page, layout::write_start(reads(page), i))
 }

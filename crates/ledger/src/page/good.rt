@@ -8,7 +8,7 @@ use octets::weight;
 use refusals::Finding;
 ghost use mathlib.Core.Path.{_≡_};
 ghost use Rattle.refusals.specs.Fault.{first, isClear};
-ghost use Rattle.ledger.specs.Page.{pageTx, pageFault, readsRows, writesRows};
+ghost use Rattle.ledger.specs.Page.{pageTx, pageFault, readsRows, writesRows, entryRows};
 ghost use Rattle.ledger.specs.Inner.{Counted};
 ghost use Rattle.ledger.specs.Good.{framed, closed};
 
@@ -106,6 +106,17 @@ fn writes_good(page: &[u8]) -> bool
     true
 }
 
+// 6 to 9: the entries.
+pub(crate) fn entries_good(page: &[u8]) -> bool
+    requires { ⌜ Counted (now page) ⌝ }
+    ensures { λ b. ⌜ b ≡ isClear (first (entryRows (pageTx (now (page .entry))))) ⌝ }
+{
+    if !reads_good(page) {
+        return false;
+    }
+    writes_good(page)
+}
+
 // Whether a page has no fault: what nearly every page is asked.
 pub(crate) fn good(page: &[u8]) -> bool
     ensures { λ b. ⌜ b ≡ isClear (pageFault (now (page .entry))) ⌝ }
@@ -116,8 +127,5 @@ pub(crate) fn good(page: &[u8]) -> bool
     if !closed(page) {
         return false;
     }
-    if !reads_good(page) {
-        return false;
-    }
-    writes_good(page)
+    entries_good(page)
 }

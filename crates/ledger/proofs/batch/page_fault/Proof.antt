@@ -1,9 +1,11 @@
 -- `page_fault`: a search by page.
 use Prim.Native.Nat.{_-_}
 use Rattle.ledger.proofs.Faults.{taken-none, refused-some}
+use Rattle.ledger.proofs.Byte.{page-shown}
 use Rattle.ledger.proofs.Gated.{good-at, bad-at}
+use Rattle.refusals.specs.Fault.{fault}
 use Rattle.ledger.specs.Gate.{rowsAt}
-use Rattle.ledger.specs.Page.{pageAt}
+use Rattle.ledger.specs.Page.{pageAt, pageFault}
 use Rattle.ledger.specs.Services.{checked, checkPage}
 use Rattle.refusals.proofs.Rows.{Passed, passed-begins, passed-on, each-at, each-clear}
 use borrow.Author.Needs.{needs}
@@ -51,23 +53,33 @@ loop-again c =
     let h = f .before .before .before in
     passed-on (h .loop .inv) (good-at _ _ (taken-none _ _ (ap checked (sym (c .enum-told .given .1)) ∙ page f)))
 
+-- what was refused of page i, and that its place is a byte of the page
+bad : (c : tie.After-check Inv-loop μ-loop) → let f = c .before .before in let h = f .before .before .before in
+    pageFault (pageAt (now (h .before .before .args .batch)) (h .loop .i)) ≡ fault (c .check .given .0 .0 .number) (c .check .given .0 .0 .place)
+bad c = refused-some _ _ _ (ap checked (sym (c .check .given .1)) ∙ page (c .before .before))
+
+mul-found : tie.Need-mul-found Inv-loop μ-loop
+mul-found c = search needs
+
 cast-found : tie.Need-cast-found Inv-loop μ-loop
 cast-found c = search needs
+
+add-found : tie.Need-add-found Inv-loop μ-loop
+add-found c = omega (arith, page-shown _ (bad (c .before .before)) .1)
 
 found-requires : tie.Need-found-requires Inv-loop μ-loop
 found-requires c κs = search needs
 
 returns : tie.Need-returns Inv-loop μ-loop
 returns c =
-    let k = c .before .before in
+    let k = c .before .before .before in
     let f = k .before .before in
     let h = f .before .before .before in
-    let e = refused-some _ _ _ (ap checked (sym (k .check .given .1)) ∙ page f) in
     let u = f .before .before .loop-test .taken in
     let s = h .before .before in
     let i = h .loop .i in
     c .found .ensures
-    ∙ sym (each-at (rowsAt (now (s .args .batch))) (s .args .m) i u (h .loop .inv .none) (bad-at (now (s .args .batch)) i (omega (arith, s .pre)) e))
+    ∙ sym (each-at (rowsAt (now (s .args .batch))) (s .args .m) i u (h .loop .inv .none) (bad-at (now (s .args .batch)) i (omega (arith, s .pre)) (bad k)))
 
 returns-2 : tie.Need-returns-2 Inv-loop μ-loop
 returns-2 c =
@@ -88,7 +100,9 @@ page-fault-spec =
     add-i
     loop-less
     loop-again
+    mul-found
     cast-found
+    add-found
     found-requires
     returns
     returns-2)

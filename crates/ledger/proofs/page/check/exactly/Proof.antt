@@ -5,9 +5,9 @@ use Prim.Native.Nat.{_≤_}
 use native.Mathlib.Omega.{arith}
 use borrow.Author.Needs.{needs}
 use denote.Ref.{now}
-use Rattle.lists.specs.Search.{someIn}
+use Rattle.lists.specs.Search.{firstIn}
 use Rattle.refusals.specs.Fault.{clear, first, finding}
-use Rattle.refusals.proofs.Rows.{row-there, row-passed}
+use Rattle.refusals.proofs.Rows.{empty-clear, lowest-found, lowest-missed}
 use Rattle.octets.specs.Bytes.{set?}
 use Rattle.ledger.specs.Page.{entryRows, spareRow, pageFault, pageTx}
 use Rattle.ledger.specs.Inner.{Counted}
@@ -31,14 +31,14 @@ spare c =
     let p = now (c .before .before .before .before .before .before .before .before .before .before .args .page) in
     omega (arith, c .spare-at .ensures, c .before .before .reads .ensures, c .before .writes .ensures, count-reads p, count-writes p)
 
-searched : (c : tie.After-any-set)
+searched : (c : tie.After-first-set)
     → let p = now (c .before .before .before .before .before .before .before .before .before .before .before .args .page) in
-    c .any-set .result ≡ spareRow p .case
+    c .first-set .result ≡ firstIn (set? p) (spareFrom p) 508
 searched c =
     let p = now (c .before .before .before .before .before .before .before .before .before .before .before .args .page) in
-    c .any-set .ensures ∙ ap (λ n. someIn (set? p) n 508) (spare (c .before))
+    c .first-set .ensures ∙ ap (λ n. firstIn (set? p) n 508) (spare (c .before))
 
-last : (c : tie.After-any-set)
+last : (c : tie.After-first-set)
     → let p = now (c .before .before .before .before .before .before .before .before .before .before .before .args .page) in
     pageFault p ≡ first (spareRow p ∷ [])
 last c = let e = c .before .before .before .before in by-spare _ (no-head (e .before .before .before)) (no-entry e)
@@ -84,11 +84,14 @@ spare-at-requires c κs =
     let p = now (c .before .before .before .before .before .before .before .before .before .args .page) in
     (omega (arith, c .before .reads .ensures, count-reads p, g .few-reads), omega (arith, c .writes .ensures, count-writes p, g .few-writes))
 
-any-set-requires : tie.Need-any-set-requires
-any-set-requires c κs = omega (arith, spare c, counted (c .before .before .before .before .before .before))
+first-set-requires : tie.Need-first-set-requires
+first-set-requires c κs = omega (arith, spare c, counted (c .before .before .before .before .before .before))
+
+cast-t12 : tie.Need-cast-t12
+cast-t12 c = omega (arith, c .if1 .taken)
 
 returns-3 : tie.Need-returns-3
-returns-3 c = let f = c .before in check-refused _ 10 0 (last f ∙ row-there _ [] (sym (searched f) ∙ c .if1 .taken))
+returns-3 c = let f = c .before in check-refused _ _ _ (last f ∙ lowest-found 10 (λ i. i) _ _ 508 [] _ (searched f) (c .if1 .taken))
 
 -- the counts are small
 few : (c : tie.Else1) → (c .before .before .before .before .reads .result ≤ 32) × (c .before .before .before .writes .result ≤ 32)
@@ -98,18 +101,17 @@ few c =
     let p = now (w .before .before .before .before .before .before .before .before .before .args .page) in
     (omega (arith, w .before .reads .ensures, count-reads p, g .few-reads), omega (arith, w .writes .ensures, count-writes p, g .few-writes))
 
-cast-t11 : tie.Need-cast-t11
-cast-t11 c = omega (arith, few c)
+cast-t13 : tie.Need-cast-t13
+cast-t13 c = omega (arith, few c)
 
-cast-t12 : tie.Need-cast-t12
-cast-t12 c = omega (arith, few c)
+cast-t14 : tie.Need-cast-t14
+cast-t14 c = omega (arith, few c)
 
 returns-4 : tie.Need-returns-4
-unfolding first
 returns-4 c =
     let f = c .before in
     check-taken _ _ _ (f .before .before .before .reads .ensures) (f .before .before .writes .ensures)
-    (last f ∙ row-passed _ [] (sym (searched f) ∙ c .if1 .left))
+    (last f ∙ lowest-missed 10 (λ i. i) _ _ 508 [] _ (searched f) (c .if1 .left) ∙ empty-clear)
 
 pub exactly-spec : {M : Type 1} → statement M
 exactly-spec =
@@ -126,8 +128,9 @@ exactly-spec =
     reads-requires
     writes-requires
     spare-at-requires
-    any-set-requires
-    returns-3
-    cast-t11
+    first-set-requires
     cast-t12
+    returns-3
+    cast-t13
+    cast-t14
     returns-4)

@@ -34,6 +34,9 @@ weigh-requires c κs = search needs
 le4-requires : tie.Need-le4-requires
 le4-requires c κs = search needs
 
+cast-found : tie.Need-cast-found
+cast-found c = search needs
+
 found-requires-2 : tie.Need-found-requires-2
 found-requires-2 c κs = search needs
 
@@ -55,6 +58,9 @@ returns-3 c =
 
 shared-slice-read-if4 : tie.Need-shared-slice-read-if4
 shared-slice-read-if4 c = search needs
+
+cast-found-2 : tie.Need-cast-found-2
+cast-found-2 c = search needs
 
 found-requires-4 : tie.Need-found-requires-4
 found-requires-4 c κs = search needs
@@ -95,12 +101,14 @@ head-fault-spec =
     returns
     weigh-requires
     le4-requires
+    cast-found
     found-requires-2
     returns-2
     shared-slice-read-if3
     found-requires-3
     returns-3
     shared-slice-read-if4
+    cast-found-2
     found-requires-4
     returns-4
     shared-slice-read-count-fault

@@ -12,41 +12,37 @@ use Rattle.ledger.proofs.page.content.read.Tie as tie
 below : (c : tie.Start) → c .args .i < readCount (now (c .args .page))
 below c = omega (arith, count-reads (now (c .args .page)), c .pre .1)
 
-mul-at : tie.Need-mul-at
-mul-at c = omega (arith, below (c .before))
-
-add-at : tie.Need-add-at
-add-at c = omega (arith, below (c .before))
+read-start-requires : tie.Need-read-start-requires
+read-start-requires c κs = omega (arith, below (c .before))
 
 add-le2 : tie.Need-add-le2
-add-le2 c = omega (arith, below (c .before))
+add-le2 c = omega (arith, below (c .before .before))
 
 le2-requires : tie.Need-le2-requires
-le2-requires c κs = omega (arith, below (c .before))
+le2-requires c κs = omega (arith, below (c .before .before))
 
 add-le4 : tie.Need-add-le4
-add-le4 c = omega (arith, below (c .before .before))
+add-le4 c = omega (arith, below (c .before .before .before))
 
 le4-requires : tie.Need-le4-requires
-le4-requires c κs = omega (arith, below (c .before .before))
+le4-requires c κs = omega (arith, below (c .before .before .before))
 
 le2-requires-2 : tie.Need-le2-requires-2
-le2-requires-2 c κs = omega (arith, below (c .before .before .before))
+le2-requires-2 c κs = omega (arith, below (c .before .before .before .before))
 
 at-requires : tie.Need-at-requires
 at-requires c κs = search needs
 
 returns : tie.Need-returns
 returns c =
-    let s = c .before .before .before .before .before in
+    let s = c .before .before .before .before .before .before in
     cc (read-is (now (s .args .page)) (s .args .i) (below s))
 
 pub read-spec : {M : Type 1} → statement M
 read-spec =
     tie.close
     (tie.spec
-    mul-at
-    add-at
+    read-start-requires
     add-le2
     le2-requires
     add-le4

@@ -8,12 +8,18 @@ use borrow.Author.Tests.{le-ltb, lt-ltb}
 use Rattle.ledger.proofs.page.counts.count_fault.Statement.{statement}
 use Rattle.ledger.proofs.page.counts.count_fault.Tie as tie
 
+cast-found : tie.Need-cast-found
+cast-found c = search needs
+
 found-requires : tie.Need-found-requires
 found-requires c κs = search needs
 
 returns : tie.Need-returns
 unfolding countRows first
 returns c = c .found .ensures ∙ rw (lt-ltb 32 (c .before .before .args .r) (omega arith))
+
+cast-found-2 : tie.Need-cast-found-2
+cast-found-2 c = search needs
 
 found-requires-2 : tie.Need-found-requires-2
 found-requires-2 c κs = search needs
@@ -26,6 +32,9 @@ returns-2 c =
 
 spare-at-requires : tie.Need-spare-at-requires
 spare-at-requires c κs = search needs
+
+cast-found-3 : tie.Need-cast-found-3
+cast-found-3 c = search needs
 
 found-requires-3 : tie.Need-found-requires-3
 found-requires-3 c κs = search needs
@@ -46,11 +55,14 @@ pub count-fault-spec : {M : Type 1} → statement M
 count-fault-spec =
     tie.close
     (tie.spec
+    cast-found
     found-requires
     returns
+    cast-found-2
     found-requires-2
     returns-2
     spare-at-requires
+    cast-found-3
     found-requires-3
     returns-3
     returns-4)

@@ -4,11 +4,9 @@ use mathlib.Core.Bool.{true}
 use borrow.Author.Needs.{needs}
 use borrow.Author.Tests.{not-true, not-false}
 use denote.Ref.{now}
-use Rattle.refusals.specs.Fault.{first, isClear}
-use Rattle.ledger.specs.Page.{pageTx, readsRows}
 use Rattle.ledger.specs.Inner.{Counted}
 use Rattle.ledger.specs.Good.{framed, closed}
-use Rattle.ledger.proofs.Goodness.{framed-counted, not-framed, not-closed, not-reads, by-writes}
+use Rattle.ledger.proofs.Goodness.{framed-counted, not-framed, not-closed, by-entries}
 use Rattle.ledger.proofs.page.good.good.Statement.{statement}
 use Rattle.ledger.proofs.page.good.good.Tie as tie
 
@@ -18,9 +16,6 @@ frames c = sym (c .before .framed .ensures) ∙ not-false (c .before .framed .re
 
 closes : (c : tie.Else2) → closed (now (c .before .before .before .before .before .args .page)) ≡ true
 closes c = sym (c .before .closed .ensures) ∙ not-false (c .before .closed .result) (c .if2 .left)
-
-reads : (c : tie.Else3) → isClear (first (readsRows (pageTx (now (c .before .before .before .before .before .before .before .args .page))))) ≡ true
-reads c = sym (c .before .reads-good .ensures) ∙ not-false (c .before .reads-good .result) (c .if3 .left)
 
 counted : (c : tie.Else1) → Counted (now (c .before .before .before .args .page))
 counted c = framed-counted _ (frames c)
@@ -37,30 +32,15 @@ closed-requires c κs = counted c
 returns-2 : tie.Need-returns-2
 returns-2 c = not-closed _ (sym (c .before .closed .ensures) ∙ not-true (c .before .closed .result) (c .if2 .taken))
 
-reads-good-requires : tie.Need-reads-good-requires
-reads-good-requires c κs = counted (c .before .before)
+entries-good-requires : tie.Need-entries-good-requires
+entries-good-requires c κs = counted (c .before .before)
 
 returns-3 : tie.Need-returns-3
-returns-3 c = not-reads _ (sym (c .before .reads-good .ensures) ∙ not-true (c .before .reads-good .result) (c .if3 .taken))
-
-writes-good-requires : tie.Need-writes-good-requires
-writes-good-requires c κs = counted (c .before .before .before .before)
-
-returns-4 : tie.Need-returns-4
-returns-4 c =
-    let r = c .before in
-    let k = r .before .before in
-    c .writes-good .ensures ∙ by-writes _ (frames (k .before .before)) (closes k) (reads r)
+returns-3 c =
+    let k = c .before in
+    c .entries-good .ensures ∙ by-entries _ (frames (k .before .before)) (closes k)
 
 pub good-spec : {M : Type 1} → statement M
 good-spec =
     tie.close
-    (tie.spec
-    framed-requires
-    returns
-    closed-requires
-    returns-2
-    reads-good-requires
-    returns-3
-    writes-good-requires
-    returns-4)
+    (tie.spec framed-requires returns closed-requires returns-2 entries-good-requires returns-3)

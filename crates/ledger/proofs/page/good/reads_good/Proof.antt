@@ -46,7 +46,7 @@ reads-requires : tie.Need-reads-requires Inv-loop μ-loop
 reads-requires c κs = search needs
 
 returns : tie.Need-returns Inv-loop μ-loop
-returns c = empty-good 6 7 _ _ _ (sym (c .before .reads .ensures) ∙ c .if1 .taken)
+returns c = empty-good 6 7 _ _ _ _ _ (sym (c .before .reads .ensures) ∙ c .if1 .taken)
 
 sub-read : tie.Need-sub-read Inv-loop μ-loop
 sub-read c = search needs
@@ -57,7 +57,7 @@ read-requires c κs = (c .before .before .before .pre, omega (arith, c .before .
 returns-2 : tie.Need-returns-2 Inv-loop μ-loop
 returns-2 c =
     let r = c .before .before in
-    too-high 6 7 _ _ _ _ _ (last-is r) (omega (arith, r .before .before .reads .ensures)) (c .if2 .taken)
+    too-high 6 7 _ _ _ _ _ (last-is r) (omega (arith, r .before .before .reads .ensures)) _ _ (c .if2 .taken)
 
 loop-holds : tie.Need-loop-holds Inv-loop μ-loop
 loop-holds c = entering-begins 6 7 _ _ _
@@ -71,7 +71,7 @@ cast-if3 c = search needs
 returns-3 : tie.Need-returns-3 Inv-loop μ-loop
 returns-3 c =
     let r = c .before .before .before in
-    falls 6 7 _ _ _ _ _ (key-is r) (within (r .before)) _ (r .before .before .loop .inv) (c .if3 .taken)
+    falls 6 7 _ _ _ _ _ (key-is r) (within (r .before)) _ (r .before .before .loop .inv) _ _ (c .if3 .taken)
 
 version-wrong-requires : tie.Need-version-wrong-requires Inv-loop μ-loop
 version-wrong-requires c κs = search needs
@@ -80,7 +80,7 @@ returns-4 : tie.Need-returns-4 Inv-loop μ-loop
 returns-4 c =
     let v = c .before in
     let r = v .before .before .before .before in
-    is-wrong 6 7 _ _ _ _ _ (key-is r) (within (r .before)) (sym (test-is v) ∙ c .if4 .taken)
+    is-wrong 6 7 _ _ _ _ _ (key-is r) (within (r .before)) _ _ (sym (test-is v) ∙ c .if4 .taken)
 
 cast-floor : tie.Need-cast-floor Inv-loop μ-loop
 cast-floor c = search needs
@@ -103,7 +103,7 @@ loop-again c =
 returns-5 : tie.Need-returns-5 Inv-loop μ-loop
 returns-5 c =
     let e = c .before .before in
-    entering-ends 6 7 _ _ _ _ _ _ (c .before .loop .inv) (omega (arith, c .loop-test .left, e .before .before .before .before .reads .ensures)) (last-is (e .before .before)) (e .if2 .left)
+    entering-ends 6 7 _ _ _ _ _ _ _ _ (c .before .loop .inv) (omega (arith, c .loop-test .left, e .before .before .before .before .reads .ensures)) (last-is (e .before .before)) (e .if2 .left)
 
 pub reads-good-spec : {M : Type 1} → statement M
 reads-good-spec =

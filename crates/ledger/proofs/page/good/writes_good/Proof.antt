@@ -46,7 +46,7 @@ writes-requires : tie.Need-writes-requires Inv-loop μ-loop
 writes-requires c κs = search needs
 
 returns : tie.Need-returns Inv-loop μ-loop
-returns c = empty-good 8 9 _ _ _ (sym (c .before .writes .ensures) ∙ c .if1 .taken)
+returns c = empty-good 8 9 _ _ _ _ _ (sym (c .before .writes .ensures) ∙ c .if1 .taken)
 
 sub-write : tie.Need-sub-write Inv-loop μ-loop
 sub-write c = search needs
@@ -57,7 +57,7 @@ write-requires c κs = (c .before .before .before .pre, omega (arith, c .before 
 returns-2 : tie.Need-returns-2 Inv-loop μ-loop
 returns-2 c =
     let r = c .before .before in
-    too-high 8 9 _ _ _ _ _ (last-is r) (omega (arith, r .before .before .writes .ensures)) (c .if2 .taken)
+    too-high 8 9 _ _ _ _ _ (last-is r) (omega (arith, r .before .before .writes .ensures)) _ _ (c .if2 .taken)
 
 loop-holds : tie.Need-loop-holds Inv-loop μ-loop
 loop-holds c = entering-begins 8 9 _ _ _
@@ -71,7 +71,7 @@ cast-if3 c = search needs
 returns-3 : tie.Need-returns-3 Inv-loop μ-loop
 returns-3 c =
     let r = c .before .before in
-    falls 8 9 _ _ _ _ _ (key-is r) (within (r .before)) _ (r .before .before .loop .inv) (c .if3 .taken)
+    falls 8 9 _ _ _ _ _ (key-is r) (within (r .before)) _ (r .before .before .loop .inv) _ _ (c .if3 .taken)
 
 kind-wrong-requires : tie.Need-kind-wrong-requires Inv-loop μ-loop
 kind-wrong-requires c κs = search needs
@@ -80,7 +80,7 @@ returns-4 : tie.Need-returns-4 Inv-loop μ-loop
 returns-4 c =
     let v = c .before in
     let r = v .before .before .before in
-    is-wrong 8 9 _ _ _ _ _ (key-is r) (within (r .before)) (sym (test-is v) ∙ c .if4 .taken)
+    is-wrong 8 9 _ _ _ _ _ (key-is r) (within (r .before)) _ _ (sym (test-is v) ∙ c .if4 .taken)
 
 cast-floor : tie.Need-cast-floor Inv-loop μ-loop
 cast-floor c = search needs
@@ -103,7 +103,7 @@ loop-again c =
 returns-5 : tie.Need-returns-5 Inv-loop μ-loop
 returns-5 c =
     let e = c .before .before in
-    entering-ends 8 9 _ _ _ _ _ _ (c .before .loop .inv) (omega (arith, c .loop-test .left, e .before .before .before .before .writes .ensures)) (last-is (e .before .before)) (e .if2 .left)
+    entering-ends 8 9 _ _ _ _ _ _ _ _ (c .before .loop .inv) (omega (arith, c .loop-test .left, e .before .before .before .before .writes .ensures)) (last-is (e .before .before)) (e .if2 .left)
 
 pub writes-good-spec : {M : Type 1} → statement M
 writes-good-spec =

@@ -1,6 +1,6 @@
 -- What the place of a refusal shows: from the rows of the table to the words of the request. Assumes nothing.
-use mathlib.Core.Path.{_≡_, refl, sym, ap}
-use mathlib.Core.Bool.{Bool, true, not}
+use mathlib.Core.Path.{_≡_, refl, _∙_}
+use mathlib.Core.Bool.{Bool, true}
 use mathlib.Core.List.{List, [], _∷_, _++_}
 use mathlib.Core.Logic.{_⊎_, ⊎-elim}
 use Prim.Native.Nat.{ℕ, _+_, _*_, _/_, _%_, _≤_, _<_}
@@ -13,16 +13,15 @@ use Rattle.lists.specs.Search.{firstIn, someIn}
 use Rattle.lists.proofs.Searches.{from-on, holds-from, before-from}
 use Rattle.refusals.specs.Fault.{clear, fault, first, inTurn}
 use Rattle.refusals.proofs.Rows.{no-rows, row-cases, append-either, each-which, moved-some, first-given, given-allowed}
-use Rattle.octets.specs.Bytes.{field, weighed, set?}
+use Rattle.octets.specs.Bytes.{field, weighed}
 use Rattle.ledger.specs.declared.Transaction.{Transaction}
 use Rattle.ledger.specs.Tx.{Tx, valueTx}
-use Rattle.ledger.specs.Page.{readCount, writeCount, size, countRows, headRows, lengthRow, entryRows, spareRow, wholeRows, pageRows, pageFault, pageTx, pageAt}
+use Rattle.ledger.specs.Page.{size, countRows, headRows, lengthRow, entryRows, spareRow, wholeRows, pageRows, pageFault, pageTx, pageAt}
 use Rattle.ledger.specs.Services.{indexRow, laidRows, writeRows, writeFault}
 use Rattle.ledger.specs.Gate.{pages, rowsAt}
 use Rattle.ledger.specs.Byte.{Lowest, CountByte, many-reads, many-writes, no-room, EntryByte, read-key, read-version, write-key, write-kind, PageByte, no-page, check, mark, third, counts, entries, spare, WriteByte, written-counts, written-entries, no-index, BatchByte}
-use Rattle.ledger.specs.Inner.{Counted}
 use Rattle.ledger.proofs.OnPage.{count-reads, count-writes}
-use Rattle.ledger.proofs.Faults.{roomy, headFault, head-counted, bad-whole}
+use Rattle.ledger.proofs.Faults.{roomy, headFault, head-counted, by-whole}
 use Rattle.ledger.proofs.Gated.{page-long, at-good}
 
 -- the row of a search
@@ -136,7 +135,7 @@ pages-shown batch {n} {q} long e =
     let w = each-which (rowsAt batch) (pages batch) e in
     let i = w .index in
     let m = moved-some (λ o. i * 512 + o) (wholeRows (pageAt batch i)) (rw zero-add at (w .given)) in
-    let s = page-shown (pageAt batch i) (bad-whole _ (page-long batch i (omega (arith, w .within))) (m .1)) in
+    let s = page-shown (pageAt batch i) (by-whole _ (page-long batch i (omega (arith, w .within))) ∙ m .1) in
     let page : q / 512 ≡ i = omega (arith, m .2, s .1) in
     let offset : q % 512 ≡ m .0 = omega (arith, m .2, s .1) in
     record {

@@ -2,18 +2,17 @@
 use mathlib.Core.Path.{_≡_, refl, sym, _∙_}
 use mathlib.Core.Bool.{Bool, true, false, _||_, _&&_, true≢false, false≢true}
 use mathlib.Core.List.{List, [], _∷_, _++_}
-use Prim.Native.Nat.{ℕ, _+_, _/_, _≤_, _<_}
+use Prim.Native.Nat.{ℕ, _+_, _/_, _≤_}
 use lib.ListN.{length, getD}
-use lib.Dec.{eqb, ltb}
+use lib.Dec.{eqb}
 use borrow.Author.Tests.{ltb-false, eqb-true, not-false, eq-eqb, ne-eqb}
-use Rattle.lists.specs.Search.{firstIn, someIn}
-use Rattle.lists.proofs.Searches.{some, none}
+use Rattle.lists.specs.Search.{someIn}
 use Rattle.refusals.specs.Outcome.{gives, refuses}
 use Rattle.refusals.specs.Fault.{Fault, clear, fault, first}
 use Rattle.refusals.proofs.Rows.{row-none, row-passed, append-clear, append-fault, append-none, judged-gives, judged-refuses}
 use lib.Seq.{sets}
 use Rattle.octets.specs.Bytes.{field, le, weighed, set?}
-use Rattle.ledger.specs.Tx.{Tx, valueTx, padded, readOf, writeOf, outOfTurn, wrongVersion, wrongKind}
+use Rattle.ledger.specs.Tx.{valueTx, padded}
 use Rattle.ledger.specs.Page.{readCount, writeCount, size, countRows, entryRows, headRows, lengthRow, spareRow, wholeRows, pageRows, pageFault, pageTx, pageOf, withPage}
 use Rattle.ledger.specs.Inner.{Counted, writeLaid}
 use Rattle.ledger.specs.declared.Transaction.{Transaction}
@@ -137,17 +136,9 @@ module _ (p : List ℕ) where
       record { head = headed p (head .0); entries = rest .0; spare = row-none (spareRow p) [] (rest .1) .0 }
 
   -- 2 to 10 alone, of a page that has its length
-  pub whole-good : length p ≡ 512 → first (wholeRows p) ≡ clear → pageFault p ≡ clear
+  pub by-whole : length p ≡ 512 → pageFault p ≡ first (wholeRows p)
   unfolding pageRows
-  whole-good l e = row-passed (lengthRow p) (wholeRows p) (rw l) ∙ e
-
-  pub whole-bad : {n q : ℕ} → length p ≡ 512 → pageFault p ≡ fault n q → first (wholeRows p) ≡ fault n q
-  unfolding pageRows
-  whole-bad l e = sym (row-passed (lengthRow p) (wholeRows p) (rw l)) ∙ e
-
-  pub bad-whole : {n q : ℕ} → length p ≡ 512 → first (wholeRows p) ≡ fault n q → pageFault p ≡ fault n q
-  unfolding pageRows
-  bad-whole l e = row-passed (lengthRow p) (wholeRows p) (rw l) ∙ e
+  by-whole l = row-passed (lengthRow p) (wholeRows p) (rw l)
 
   pub good-whole : pageFault p ≡ clear → first (wholeRows p) ≡ clear
   unfolding pageRows

@@ -14,7 +14,7 @@ use Rattle.ledger.specs.Page.{wholeRows, pageFault, pageAt}
 use Rattle.ledger.specs.State.{State, keys, entry, wrongEntry, wrongLengths, stateRows}
 use Rattle.ledger.specs.Gate.{pages, txAt, again, beyond, rowsAt, pagesRows, bytesRow, frontRows, gateRows}
 use Rattle.ledger.specs.Inner.{Level, Ready, Batch}
-use Rattle.ledger.proofs.Faults.{or-none, and-both, whole-good, whole-bad, good-whole}
+use Rattle.ledger.proofs.Faults.{or-none, and-both, by-whole, good-whole}
 
 abbrev pub gateFault : List Row → List ℕ → State → ℕ → Fault
 gateFault own batch s n = first (gateRows own batch s n)
@@ -30,10 +30,10 @@ module _ (batch : List ℕ) (i : ℕ) where
     page-long = simp (length-take, length-drop) (omega arith)
 
     pub bad-at : {n q : ℕ} → pageFault (pageAt batch i) ≡ fault n q → first (rowsAt batch i) ≡ fault n (i * 512 + q)
-    bad-at e = first-moved (λ q. i * 512 + q) (wholeRows (pageAt batch i)) ∙ ap (movedFault (λ q. i * 512 + q)) (whole-bad (pageAt batch i) page-long e)
+    bad-at e = first-moved (λ q. i * 512 + q) (wholeRows (pageAt batch i)) ∙ ap (movedFault (λ q. i * 512 + q)) (sym (by-whole (pageAt batch i) page-long) ∙ e)
 
     pub at-good : first (rowsAt batch i) ≡ clear → pageFault (pageAt batch i) ≡ clear
-    at-good e = whole-good (pageAt batch i) page-long (moved-none (λ q. i * 512 + q) (wholeRows (pageAt batch i)) e)
+    at-good e = by-whole (pageAt batch i) page-long ∙ moved-none (λ q. i * 512 + q) (wholeRows (pageAt batch i)) e
 
 pub all-good : (batch : List ℕ) (m : ℕ) → m * 512 ≤ length batch → first (inTurn m (rowsAt batch)) ≡ clear → (i : ℕ) → i < m → pageFault (pageAt batch i) ≡ clear
 all-good batch m h e i l = at-good batch i (omega arith) (each-none (rowsAt batch) m e i l)

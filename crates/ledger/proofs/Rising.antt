@@ -11,7 +11,7 @@ use lib.Dec.{ltb}
 use borrow.Author.Tests.{ltb-true, ltb-false, lt-ltb, le-ltb, not-false}
 use Rattle.lists.specs.Search.{someIn}
 use Rattle.lists.proofs.Searches.{missed, none-at, some-at, any-search}
-use Rattle.ledger.specs.Tx.{Tx, noRead, noWrite, readOf, writeOf, floorOf, outOfTurn, wrongVersion, wrongKind}
+use Rattle.ledger.specs.Tx.{Tx, noRead, noWrite, readOf, writeOf, floorOf, outOfTurn, wrongKind}
 use Rattle.refusals.specs.Fault.{clear, first}
 use Rattle.refusals.proofs.Rows.{row-none}
 use Rattle.ledger.specs.Page.{entryRows, pageFault, pageTx}
@@ -73,7 +73,6 @@ writeKey x i = writeOf (x .writes) i .key
 
 pub record Entered (x : Tx) : Type 0 where
   pub no-six : someIn (outOfTurn (readKey x)) 0 (length (x .reads)) ≡ false
-  pub no-seven : someIn (λ i. wrongVersion (readOf (x .reads) i .version)) 0 (length (x .reads)) ≡ false
   pub no-eight : someIn (outOfTurn (writeKey x)) 0 (length (x .writes)) ≡ false
   pub no-nine : someIn (λ i. wrongKind (writeOf (x .writes) i)) 0 (length (x .writes)) ≡ false
 
@@ -83,7 +82,7 @@ entered x e =
     let a = row-none _ _ e in
     let b = row-none _ _ (a .1) in
     let c = row-none _ _ (b .1) in
-    record { no-six = a .0; no-seven = b .0; no-eight = c .0; no-nine = row-none _ _ (c .1) .0 }
+    record { no-six = a .0; no-eight = c .0; no-nine = row-none _ _ (c .1) .0 }
 
 module _ (p : List ℕ) (good : pageFault p ≡ clear) where
   pub read-keys : Rising (readKey (pageTx p)) (length (pageTx p .reads))

@@ -136,10 +136,6 @@ holds-seek bad i (suc k) h = go (bad i) refl h (λ q. holds-seek bad (suc i) k q
     go true e q ih = e
     go false e q ih = ih (omega arith)
 
-pub holds : (bad : ℕ → Bool) (n x : ℕ) → x ≡ firstIn bad 0 n → x < n → bad x ≡ true
-unfolding firstIn
-holds bad n x e h = rw e (holds-seek bad 0 (n - 0) (omega arith))
-
 from-seek : (bad : ℕ → Bool) (i k : ℕ) → i ≤ seek bad i k
 unfolding seek
 from-seek bad i zero = omega arith
@@ -149,7 +145,6 @@ from-seek bad i (suc k) = go (bad i) (from-seek bad (suc i) k)
     go true ih = omega arith
     go false ih = omega arith
 
--- the same from any index on
 module _ (bad : ℕ → Bool) (from to : ℕ) where
   pub from-on : from ≤ firstIn bad from to
   unfolding firstIn
@@ -158,6 +153,9 @@ module _ (bad : ℕ → Bool) (from to : ℕ) where
   pub holds-from : firstIn bad from to < to → bad (firstIn bad from to) ≡ true
   unfolding firstIn
   holds-from h = holds-seek bad from (to - from) (omega (arith, from-seek bad from (to - from)))
+
+pub holds : (bad : ℕ → Bool) (n x : ℕ) → x ≡ firstIn bad 0 n → x < n → bad x ≡ true
+holds bad n x e h = rw e (holds-from bad 0 n (omega (arith, e)))
 
 -- and before it the test fails
 before-seek : (bad : ℕ → Bool) (i k j : ℕ) → i + j < seek bad i k → bad (i + j) ≡ false
@@ -175,15 +173,14 @@ before-seek bad i (suc k) j h = go (bad i) refl j h (λ l o. before-seek bad (su
     go false e zero o ih = rw add-zero e
     go false e (suc l) o ih = rw (add-suc, ← suc-add) (ih l (omega arith))
 
-pub before : (bad : ℕ → Bool) (n x : ℕ) → x ≡ firstIn bad 0 n → (j : ℕ) → j < x → bad j ≡ false
-unfolding firstIn
-before bad n x e j h = rw zero-add at (before-seek bad 0 (n - 0) j (omega arith))
-
 pub before-from : (bad : ℕ → Bool) (from to j : ℕ) → from ≤ j → j < firstIn bad from to → bad j ≡ false
 unfolding firstIn
 before-from bad from to j l h =
     let at : from + (j - from) ≡ j = omega arith in
     rw at at (before-seek bad from (to - from) (j - from) (omega arith))
+
+pub before : (bad : ℕ → Bool) (n x : ℕ) → x ≡ firstIn bad 0 n → (j : ℕ) → j < x → bad j ≡ false
+before bad n x e j h = before-from bad 0 n j (omega arith) (omega (arith, e))
 
 -- ---- tests over a list, as searches
 

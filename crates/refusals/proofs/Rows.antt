@@ -8,7 +8,7 @@ use mathlib.Core.Logic.{_↔_, _⊎_, inl, inr, ⊎-elim}
 use mathlib.Core.Path.{_≡_, refl, sym, ap, ap₂, _∙_}
 use lib.Dec.{T}
 use Rattle.lists.specs.Members.{all}
-use Rattle.lists.specs.Search.{firstIn, someIn}
+use Rattle.lists.specs.Search.{firstIn}
 use Rattle.lists.proofs.Tests.{both, and-left, and-right}
 use Rattle.lists.proofs.Searches.{some, none, holds, missed, before}
 use Rattle.refusals.specs.Outcome.{Outcome, gives, refuses}

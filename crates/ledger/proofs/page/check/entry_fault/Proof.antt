@@ -1,5 +1,5 @@
 -- `entry_fault`: good entries have no fault, of others the reads come first, then the writes.
-use mathlib.Core.Path.{_≡_, sym, ap, _∙_}
+use mathlib.Core.Path.{sym, ap, _∙_}
 use borrow.Author.Needs.{needs}
 use denote.Ref.{now}
 use Rattle.refusals.specs.Fault.{finding}

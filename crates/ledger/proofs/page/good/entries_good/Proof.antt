@@ -1,5 +1,5 @@
 -- `entries_good`: the reads, then the writes.
-use mathlib.Core.Path.{_≡_, sym, _∙_}
+use mathlib.Core.Path.{sym, _∙_}
 use borrow.Author.Needs.{needs}
 use borrow.Author.Tests.{not-true, not-false}
 use Rattle.ledger.proofs.Goodness.{not-reads, by-writes}

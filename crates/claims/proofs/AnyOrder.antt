@@ -30,7 +30,7 @@ use Rattle.claims.specs.Serial.{Rules, Fits, run, Serial}
 use Rattle.claims.specs.Third.{verdictAt, zeros, Third}
 use Rattle.claims.proofs.Running.{Waiting, waiting, made-pages, commit-runs, fails-none}
 use Rattle.claims.proofs.Running.{key-below, ends-last, ends-unwritten}
-use Rattle.claims.proofs.OutBatch.{gathered-pages, gathered-txs, gathered-open}
+use Rattle.planning.proofs.OutBatch.{gathered-pages, gathered-txs, gathered-open}
 
 -- as many zeros, as many passes
 passed-zeros : (n : ℕ) → passed (replicate n 0) ≡ n

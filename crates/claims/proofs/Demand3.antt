@@ -28,9 +28,9 @@ use Rattle.refusals.proofs.Answers.{value}
 use Rattle.planning.proofs.Opened.{plan-open, plan-clear}
 use Rattle.planning.proofs.Opened.{own as mine}
 use Rattle.claims.proofs.AnyOrder.{zeros-out, zeros-in, zeros-distinct, make-third}
-use Rattle.claims.proofs.Planning.{sequence-perm, kept-distinct, kept-current, kept-below, own-order}
-use Rattle.claims.proofs.Planning.{verdict-kept, verdict-small, verdict-stale, closes-cycle}
-use Rattle.claims.proofs.OutBatch.{gathered-whole}
+use Rattle.planning.proofs.Kept.{sequence-perm, kept-distinct, kept-current, kept-below, own-order}
+use Rattle.planning.proofs.Kept.{verdict-kept, verdict-small, verdict-stale, closes-cycle}
+use Rattle.planning.proofs.OutBatch.{gathered-whole}
 
 module _ (batch : List ℕ) (s : State) (n : ℕ) (seq vs os out : List ℕ) (q : Sequence batch s seq)
     (c : first (planRows batch s n vs os out) ≡ clear) where

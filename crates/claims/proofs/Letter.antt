@@ -28,7 +28,7 @@ use Rattle.claims.specs.Serial.{run}
 use Rattle.claims.specs.Letter.{booked, correction, plainCorrection, settlement, closing}
 use Rattle.claims.specs.Letter.{letterPlan, letterCommit, Becomes, by, Letter}
 use Rattle.claims.proofs.Running.{onPages}
-use Rattle.claims.proofs.Planning.{sequence-perm}
+use Rattle.planning.proofs.Kept.{sequence-perm}
 use Rattle.claims.proofs.Demand3.{third}
 use Rattle.claims.proofs.Opened.{good, after, open-over}
 

@@ -5,9 +5,7 @@ pub mod Empty
 pub mod Halves
 pub mod Letter
 pub mod Opened
-pub mod OutBatch
 pub mod Pages
-pub mod Planning
 pub mod Refusals
 pub mod Running
 pub mod Shown

@@ -30,7 +30,7 @@ use Rattle.planning.specs.Plan.{short, planRows}
 use Rattle.planning.proofs.Opened.{own}
 use Rattle.report.specs.Program.{startNumber, start}
 use Rattle.claims.specs.Cases.{batchOf}
-use Rattle.claims.proofs.OutBatch.{page-first, page-next}
+use Rattle.planning.proofs.OutBatch.{page-first, page-next}
 use Rattle.claims.proofs.Shown.{long}
 
 -- ---- absent keys

@@ -27,7 +27,7 @@ use Rattle.claims.specs.Shown.{Whole}
 use Rattle.refusals.proofs.Answers.{value}
 use Rattle.planning.proofs.Opened.{own, plan-open, plan-clear}
 use Rattle.claims.proofs.Running.{onPages}
-use Rattle.claims.proofs.Planning.{sequence-perm}
+use Rattle.planning.proofs.Kept.{sequence-perm}
 use Rattle.claims.proofs.Demand3.{third}
 
 -- ---- a commit leaves lists as long as they were

@@ -32,7 +32,7 @@ use Rattle.planning.specs.Plan.{current, before, sequence, kept, verdict, Plans
 use Rattle.planning.proofs.Opened.{own, plan-open, plan-clear}
 use Rattle.claims.specs.Third.{verdictAt, zeros}
 use Rattle.planning.proofs.Words.{reads-key, before-words}
-use Rattle.claims.proofs.Planning.{sequence-perm, kept-below}
+use Rattle.planning.proofs.Kept.{sequence-perm, kept-below}
 use Rattle.claims.proofs.Demand3.{verdict-at, zeros-kept, demand-3}
 
 -- ---- admission in rising ticket order

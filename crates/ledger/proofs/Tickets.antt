@@ -1,5 +1,5 @@
 -- The tickets of the pages of a batch, gathered in turn, and the search among them. Assumes nothing.
-use mathlib.Core.Path.{_≡_, ap₂, _∙_}
+use mathlib.Core.Path.{_≡_, refl, ap₂, _∙_}
 use mathlib.Core.List.{List}
 use Prim.Native.Nat.{ℕ, _+_, _<_}
 use native.Mathlib.Omega.{arith}
@@ -11,16 +11,16 @@ use Rattle.lists.proofs.Stores.{front-more}
 use Rattle.ledger.specs.Gate.{txAt, again}
 use Rattle.ledger.specs.Inner.{TicketsOf}
 
--- the tickets of the first i pages stand in front
-pub record Gathering (batch tickets : List ℕ) (i : ℕ) : Type 0 where
-  pub many : length tickets ≡ 64
+-- the tickets of the first i pages stand in front of a list of `size`
+pub record Gathering (batch tickets : List ℕ) (size i : ℕ) : Type 0 where
+  pub many : length tickets ≡ size
   pub front : TicketsOf batch i tickets
 
-pub gathering-begins : (batch tickets : List ℕ) → length tickets ≡ 64 → Gathering batch tickets 0
-gathering-begins batch tickets e = record { many = e; front = record { each = λ j h. absurd (omega arith) } }
+pub gathering-begins : (batch tickets : List ℕ) → Gathering batch tickets (length tickets) 0
+gathering-begins batch tickets = record { many = refl; front = record { each = λ j h. absurd (omega arith) } }
 
-pub gathering-turns : {batch tickets : List ℕ} {i : ℕ} (t : ℕ) → Gathering batch tickets i → i < 64 → t ≡ txAt batch i .ticket → Gathering batch (set tickets i t) (i + 1)
-gathering-turns {batch} {tickets} {i} t g h is = record {
+pub gathering-turns : {batch tickets : List ℕ} {size i : ℕ} (t : ℕ) → Gathering batch tickets size i → i < size → t ≡ txAt batch i .ticket → Gathering batch (set tickets i t) size (i + 1)
+gathering-turns {batch} {tickets} {size} {i} t g h is = record {
   many = length-set tickets i t ∙ g .many;
   front = record { each = front-more (λ j. txAt batch j .ticket) tickets i t (omega (arith, g .many)) is (g .front .each) };
 }

@@ -14,7 +14,7 @@ ghost use Rattle.lists.specs.Search.{firstIn, someIn};
 ghost use Rattle.refusals.specs.Fault.{clear, first, finding, inTurn};
 ghost use Rattle.ledger.specs.Page.{pageAt, pageTx, pageFault};
 ghost use Rattle.ledger.specs.State.{stateOf};
-ghost use Rattle.ledger.specs.Gate.{pages, txAt, rowsAt, beyond, bytesRow, frontRows, pagesRows};
+ghost use Rattle.ledger.specs.Gate.{pages, txAt, rowsAt, beyond, bytesRow, lentRow, frontRows, pagesRows, gateRows};
 ghost use Rattle.ledger.specs.Inner.{TicketsOf};
 
 // 11: a batch that is too long, or not of whole pages.
@@ -31,7 +31,7 @@ fn length_fault(batch: &[u8]) -> Finding
 }
 
 // 11, 12 and 13: the length of the batch, then the state.
-pub fn front_fault(batch: &[u8], blocks: &[u32], places: &[u16], values: &[i64], n: u32) -> Finding
+fn front_fault(batch: &[u8], blocks: &[u32], places: &[u16], values: &[i64], n: u32) -> Finding
     ensures { λ f. ⌜ (
         let s = stateOf (now (blocks .entry)) (now (places .entry)) (now (values .entry)) in
         finding f ≡ first (frontRows (now (batch .entry)) s n)
@@ -61,18 +61,16 @@ fn page_fault(batch: &[u8], m: usize) -> Finding
     Finding::Clear
 }
 
-// The tickets of the first `m` pages.
-pub fn tickets(batch: &[u8], m: usize) -> [u32; layout::MOST_PAGES]
-    requires { ⌜ (m * 512 ≤ length (now batch)) × (m ≤ 64) ⌝ }
-    ensures { λ r. ⌜ TicketsOf (now (batch .entry)) m r ⌝ }
+// Fills the first `m` tickets with those of the pages.
+fn fill_tickets(batch: &[u8], m: usize, tickets: &mut [u32])
+    requires { ⌜ (m * 512 ≤ length (now batch)) × (m ≤ length (now tickets)) ⌝ }
+    ensures { λ _. ⌜ TicketsOf (now (batch .entry)) m (now (tickets .exit)) ⌝ }
 {
-    let mut all = [0u32; layout::MOST_PAGES];
     let mut i = 0;
     while i < m {
-        all[i] = content::ticket(layout::page_at(batch, i));
+        tickets[i] = content::ticket(layout::page_at(batch, i));
         i += 1;
     }
-    all
 }
 
 // Whether one of the first `count` tickets is `ticket`. All are compared, and none ends the loop, so it is vector code.
@@ -146,7 +144,7 @@ fn first_beyond(batch: &[u8], m: usize, keys: usize) -> usize
 }
 
 // 2 to 10, then 15, then 16: the pages, their tickets, their keys.
-pub fn pages_fault(batch: &[u8], tickets: &[u32; layout::MOST_PAGES], keys: usize) -> Finding
+fn pages_fault(batch: &[u8], tickets: &[u32; layout::MOST_PAGES], keys: usize) -> Finding
     requires { ⌜ length (now batch) ≤ 32768 ⌝ }
     requires { ⌜ TicketsOf (now batch) (pages (now batch)) (now tickets) ⌝ }
     ensures { λ f. ⌜ finding f ≡ first (pagesRows (now (batch .entry)) keys) ⌝ }
@@ -165,4 +163,34 @@ pub fn pages_fault(batch: &[u8], tickets: &[u32; layout::MOST_PAGES], keys: usiz
         return refusals::found(refusals::KEY_BEYOND_STATE, beyond as u32);
     }
     Finding::Clear
+}
+
+// The whole gate: 11 to 13, then 14 where a service says that what it is lent is too short, then the pages. Where it finds
+// nothing it leaves their tickets.
+pub fn gate_fault(
+    batch: &[u8],
+    blocks: &[u32],
+    places: &[u16],
+    values: &[i64],
+    n: u32,
+    short: bool,
+    tickets: &mut [u32; layout::MOST_PAGES],
+) -> Finding
+    ensures { λ f. ⌜ (
+        let s = stateOf (now (blocks .entry)) (now (places .entry)) (now (values .entry)) in
+        finding f ≡ first (gateRows (lentRow short ∷ []) (now (batch .entry)) s n)
+        ) ⌝ }
+    ensures { λ f. ⌜
+        (finding f ≡ clear → TicketsOf (now (batch .entry)) (pages (now (batch .entry))) (now (tickets .exit)))
+        ⌝ }
+{
+    let found = front_fault(batch, blocks, places, values, n);
+    if let Finding::Found { refusal: _ } = found {
+        return found;
+    }
+    if short {
+        return refusals::found(refusals::LENT_TOO_SHORT, 0);
+    }
+    fill_tickets(batch, batch.len() / layout::PAGE, tickets);
+    pages_fault(batch, tickets, blocks.len())
 }

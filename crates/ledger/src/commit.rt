@@ -144,7 +144,7 @@ fn in_turn() -> [u8; layout::MOST_PAGES]
 }
 
 // Commits the pages that the first `k` entries of an order name, in its order, and gives the number that pass.
-fn commit_pages(
+pub fn commit_pages(
     batch: &[u8],
     order: &[u8],
     k: usize,
@@ -195,16 +195,10 @@ pub fn commit_batch(
         committed r left (now (verdicts .exit)) ≡ commitBatch (now (batch .entry)) s n (now (verdicts .entry))
         ) ⌝ }
 {
-    let found = batch::front_fault(batch, blocks, places, values, n);
-    if let Finding::Found { refusal } = found {
-        return Answer::Refused { refusal };
-    }
     let m = batch.len() / layout::PAGE;
-    if verdicts.len() < m {
-        return refusals::refused(refusals::LENT_TOO_SHORT, 0);
-    }
-    let tickets = batch::tickets(batch, m);
-    let found = batch::pages_fault(batch, &tickets, blocks.len());
+    let short = verdicts.len() < m;
+    let mut tickets = [0u32; layout::MOST_PAGES];
+    let found = batch::gate_fault(batch, blocks, places, values, n, short, &mut tickets);
     if let Finding::Found { refusal } = found {
         return Answer::Refused { refusal };
     }

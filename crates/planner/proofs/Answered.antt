@@ -2,15 +2,15 @@
 use mathlib.Core.Path.{_≡_, sym, ap, ap₂, _∙_}
 use mathlib.Core.Bool.{Bool, _&&_, cond}
 use mathlib.Core.List.{List, [], _++_, map}
-use Prim.Native.Nat.{ℕ, _*_, _^_, _<_}
+use Prim.Native.Nat.{ℕ, _*_, _^_, _≤_, _<_}
 use native.Mathlib.Omega.{arith}
 use borrow.Author.Tests.{lt-ltb}
 use lib.Dec.{T, eqb, ltb}
-use lib.ListN.{length, take, drop}
+use lib.ListN.{length, getD, take, drop, List·getD-append}
+use lib.Seq.{take-at}
 use Rattle.lists.specs.Members.{any, those, distinct}
 use Rattle.lists.specs.Tables.{upto, tab}
-use Rattle.lists.proofs.Membership.{those-same, distinct-those, perm-distinct, upto-below, upto-distinct}
-use Rattle.refusals.specs.Outcome.{gives}
+use Rattle.lists.proofs.Membership.{getD-in, those-same, distinct-those, perm-distinct, upto-below, upto-distinct}
 use Rattle.orders.specs.Walk.{Lists}
 use Rattle.orders.specs.Admission.{admit}
 use Rattle.orders.specs.Arrange.{byTicket, schedule}
@@ -21,9 +21,11 @@ use Rattle.ledger.specs.Gate.{pages, txAt}
 use Rattle.ledger.specs.Inner.{Batch}
 use Rattle.lists.proofs.Tables.{tab-same}
 use Rattle.refusals.specs.declared.Answer.the-variants.{Count}
-use Rattle.planner.specs.Ranks.{demands, nth, Sound, Ranked}
-use Rattle.planning.specs.Plan.{current, before, sequence, kept, verdict, order, gathered, Plans, plans, planned}
-use Rattle.planner.proofs.Joined.{Lined, lined-different, order-is, filled-many, filled-front, scheduled}
+use Rattle.planner.specs.Ranks.{demands, nth, Sound, Ranked, Planned}
+use Rattle.planning.specs.Plan.{current, before, sequence, kept, verdict, order, gathered, plans, planned}
+use Rattle.planning.proofs.Few.{order-short}
+use Rattle.planning.proofs.Kept.{sequence-perm, order-below}
+use Rattle.planner.proofs.Steps.{Lined, lined-different, order-is, filled-many, filled-front, scheduled}
 
 -- ---- what the steps ask of one another
 
@@ -38,16 +40,13 @@ lined-ranked t K batch m ps c l s = record {
   good = λ r h. s .good (nth ps r) (l .low r h);
 }
 
--- ---- the outcome of a plan
+-- ---- rules 1 to 4
 
 abbrev judge : Bool → Bool → ℕ
 judge current kept = cond current (cond kept 0 2) 1
 
-abbrev outcome : ℕ → List ℕ → List ℕ → List ℕ → Plans
-outcome k vs os out = record { answer = gives k; verdicts = vs; order = os; out = out }
-
 module _
-    (batch : List ℕ) (held : ℕ → Version) (m set : ℕ) (whole : length batch ≡ m * 512)
+    (batch : List ℕ) (held : ℕ → Version) (m set : ℕ)
     (told : (i : ℕ) → member set i ≡ (ltb i m && current held (txAt batch) i)) where
   -- the set has those below m that are current
   is-current : (i : ℕ) → i < m → member set i ≡ current held (txAt batch) i
@@ -63,15 +62,14 @@ module _
       rw (← sequence-is) (perm-distinct (by-ticket-perm (λ i. txAt batch i .ticket) (those (member set) (upto m)) d) d)
 
   module _
-      (ps blockers : List ℕ) (c left k placed : ℕ) (vs os out vs′ os′ out′ : List ℕ)
+      (ps blockers : List ℕ) (c left k placed : ℕ) (vs os vs′ os′ : List ℕ)
       (l : Lined (λ i. txAt batch i .ticket) (member set) m ps c)
       (agree : (r s : ℕ) → r < c → s < c → demands blockers r s ≡ before (txAt batch) (nth ps r) (nth ps s))
       (small : left < 2 ^ 64) (inside : Lists (member left) (admit (demands blockers) [] (upto c)))
       (count : k ≡ length (members left 64))
       (filled : os′ ≡ map (nth ps) (schedule (demands blockers) (λ x. x) (members left 64)) ++ drop k os)
       (listed : (i : ℕ) → member placed i ≡ any (eqb i) (take k os′))
-      (judged : vs′ ≡ tab m (λ i. cond (member set i) (cond (member placed i) 0 2) 1) ++ drop m vs)
-      (copied : out′ ≡ gathered batch (take k os′) ++ drop (512 * k) out) where
+      (judged : vs′ ≡ tab m (λ i. cond (member set i) (cond (member placed i) 0 2) 1) ++ drop m vs) where
     order-of : map (nth ps) (schedule (demands blockers) (λ x. x) (members left 64)) ≡ order (txAt batch) (sequence held (txAt batch) m)
     unfolding order kept
     order-of =
@@ -90,24 +88,37 @@ module _
         ap₂ judge (is-current i h)
         (listed i ∙ ap (any (eqb i)) front ∙ scheduled (before (txAt batch)) (λ i. txAt batch i .ticket) (sequence held (txAt batch) m) once i)
 
-    pages-of : m ≡ pages batch
-    pages-of = omega (arith, whole)
+    pub plan-made : Planned batch held m vs os k vs′ os′
+    plan-made = record {
+      count-is = many;
+      verdicts-are = judged ∙ ap (λ x. x ++ drop m vs) (tab-same (λ i. judge (member set i) (member placed i)) (verdict held (txAt batch) (sequence held (txAt batch) m)) m verdict-of);
+      order-is = filled ∙ ap₂ (λ x n. x ++ drop n os) order-of many;
+    }
 
-    verdicts-of : vs′ ≡ tab (pages batch) (verdict held (txAt batch) (sequence held (txAt batch) m)) ++ drop (pages batch) vs
-    verdicts-of =
-        judged
-        ∙ ap (λ x. x ++ drop m vs) (tab-same (λ i. judge (member set i) (member placed i)) (verdict held (txAt batch) (sequence held (txAt batch) m)) m verdict-of)
-        ∙ ap (λ n. tab n (verdict held (txAt batch) (sequence held (txAt batch) m)) ++ drop n vs) pages-of
+-- ---- what a plan of the whole batch leaves
 
-    orders-of : os′ ≡ order (txAt batch) (sequence held (txAt batch) m) ++ drop (length (order (txAt batch) (sequence held (txAt batch) m))) os
-    orders-of = filled ∙ ap₂ (λ x n. x ++ drop n os) order-of many
+module _
+    (batch : List ℕ) (held : ℕ → Version) (vs os : List ℕ) (k : ℕ) (vs′ os′ : List ℕ)
+    (p : Planned batch held (pages batch) vs os k vs′ os′) where
+  abbrev o : List ℕ
+  o = order (txAt batch) (sequence held (txAt batch) (pages batch))
 
-    out-of : out′ ≡ gathered batch (order (txAt batch) (sequence held (txAt batch) m)) ++ drop (512 * length (order (txAt batch) (sequence held (txAt batch) m))) out
-    out-of = copied ∙ ap₂ (λ x n. gathered batch x ++ drop (512 * n) out) front many
+  pub few : k ≤ pages batch
+  few = omega (arith, p .count-is, order-short held (txAt batch) (pages batch))
 
-    -- rules 1 to 4
-    pub plan-made : planned (Count k) vs′ os′ out′ ≡ plans batch held (sequence held (txAt batch) m) vs os out
-    unfolding plans
-    plan-made =
-        ap₂ (λ n x. outcome n x os′ out′) many verdicts-of
-        ∙ ap₂ (λ x y. outcome (length (order (txAt batch) (sequence held (txAt batch) m))) (tab (pages batch) (verdict held (txAt batch) (sequence held (txAt batch) m)) ++ drop (pages batch) vs) x y) orders-of out-of
+  -- the front of the order list is the order
+  pub front-is : take k os′ ≡ o
+  front-is = ap (take k) (p .order-is) ∙ take-at o (drop (length o) os) k (sym (p .count-is))
+
+  pub named-is : (j : ℕ) → j < k → getD os′ j 0 ≡ getD o j 0
+  named-is j h = ap (λ l. getD l j 0) (p .order-is) ∙ List·getD-append o (drop (length o) os) 0 j (omega (arith, p .count-is))
+
+  -- each page that it names is one of the batch
+  pub named-below : (j : ℕ) → j < k → getD os′ j 0 < pages batch
+  named-below j h =
+      rw (named-is j h)
+      (order-below held (txAt batch) (pages batch) _ (sequence-perm held (txAt batch) (pages batch)) (getD-in o j 0 (omega (arith, p .count-is))))
+
+  pub plan-copied : (out out′ : List ℕ) → out′ ≡ gathered batch (take k os′) ++ drop (512 * k) out → planned (Count k) vs′ os′ out′ ≡ plans batch held (sequence held (txAt batch) (pages batch)) vs os out
+  unfolding plans
+  plan-copied out out′ copied = rw (copied, front-is, p .count-is, p .verdicts-are, p .order-is)

@@ -1,7 +1,7 @@
 -- What a plan leaves in the lent lists, filled from the front: what is known at each turn. Assumes nothing.
 use mathlib.Core.Path.{_≡_, refl, sym, ap, ap₂, _∙_}
 use mathlib.Core.Bool.{Bool, true, false, not, cond}
-use mathlib.Core.List.{List, [], _∷_, _++_, append-assoc, append-nil, List·Memᴰ·head, List·Memᴰ·tail}
+use mathlib.Core.List.{List, [], _∷_, _++_, append-assoc, append-nil}
 use Prim.Native.Nat.{ℕ, suc, _+_, _-_, _*_, _≤_, _<_}
 use native.Mathlib.Numerals.{add-one}
 use native.Mathlib.Omega.{arith}
@@ -13,10 +13,10 @@ use Rattle.lists.proofs.Membership.{in-at}
 use Rattle.lists.specs.Tables.{tab}
 use Rattle.ledger.specs.Page.{pageAt}
 use Rattle.lists.proofs.Tables.{length-tab}
-use Rattle.ledger.proofs.Gated.{page-long}
 use Rattle.ledger.proofs.Placed.{part-back}
 use Rattle.planner.specs.Ranks.{nth}
 use Rattle.planning.specs.Plan.{gathered}
+use Rattle.planning.proofs.OutBatch.{gathered-long}
 
 -- ---- the verdict of a page
 
@@ -47,16 +47,6 @@ gathered-append : (batch is js : List ℕ) → gathered batch (is ++ js) ≡ gat
 unfolding gathered
 gathered-append batch [] js = refl
 gathered-append batch (i ∷ is) js = rw append-assoc (ap (λ l. pageAt batch i ++ l) (gathered-append batch is js))
-
--- as many bytes as pages of 512
-pub gathered-long :
-    (batch is : List ℕ) → ((i : ℕ) → i ∈ is → i * 512 + 512 ≤ length batch) → length (gathered batch is) ≡ length is * 512
-unfolding gathered
-gathered-long batch [] f = refl
-gathered-long batch (i ∷ is) f =
-    let a = page-long batch i (f i (List·Memᴰ·head refl)) in
-    let b = gathered-long batch is (λ j m. f j (List·Memᴰ·tail m)) in
-    length-append (pageAt batch i) (gathered batch is) ∙ omega arith
 
 module _ (batch order : List ℕ) (k : ℕ) (long : k ≤ length order) (inside : (j : ℕ) → j < k → nth order j * 512 + 512 ≤ length batch) where
   pub gathered-next : (j : ℕ) → j < k → gathered batch (take (j + 1) order) ≡ gathered batch (take j order) ++ pageAt batch (nth order j)

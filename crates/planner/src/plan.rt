@@ -8,16 +8,16 @@ use ledger::layout;
 use refusals::Answer;
 use refusals::Finding;
 ghost use mathlib.Core.Path.{_≡_};
-ghost use mathlib.Core.Bool.{_&&_};
-ghost use Prim.Native.Nat.{ℕ, _*_, _≤_, _<_};
+ghost use mathlib.Core.Bool.{_&&_, _||_};
+ghost use Prim.Native.Nat.{ℕ, _≤_, _<_};
 ghost use lib.ListN.{length};
 ghost use lib.Dec.{ltb};
 ghost use Rattle.sets.specs.Set.{member};
 ghost use Rattle.ledger.specs.State.{stateOf, versionsIn};
 ghost use Rattle.ledger.specs.Gate.{txAt};
 ghost use Rattle.ledger.specs.Inner.{Batch, TicketsOf};
-ghost use Rattle.planner.specs.Ranks.{Differ};
-ghost use Rattle.planning.specs.Plan.{current, sequence, plans, planned, planBatch};
+ghost use Rattle.planner.specs.Ranks.{Differ, Planned};
+ghost use Rattle.planning.specs.Plan.{current, planned, planBatch};
 
 // Rule 1: the current ones of the first `m` pages, as a set.
 fn current(batch: &[u8], blocks: &[u32], places: &[u16], m: usize) -> u64
@@ -40,8 +40,15 @@ fn current(batch: &[u8], blocks: &[u32], places: &[u16], m: usize) -> u64
     set
 }
 
-// Plans a batch that the gate lets through: rules 1 to 4.
-fn plan_pages(
+// 14: whether the verdicts or the order are shorter than `m`.
+pub fn lists_short(verdicts: &[u8], order: &[u8], m: usize) -> bool
+    ensures { λ r. ⌜ r ≡ (ltb (length (now (verdicts .entry))) m || ltb (length (now (order .entry))) m) ⌝ }
+{
+    verdicts.len() < m || order.len() < m
+}
+
+// Rules 1 to 4 on a batch that the gate lets through: fills verdicts and order, and gives the kept count.
+pub fn plan_pages(
     batch: &[u8],
     tickets: &[u32; layout::MOST_PAGES],
     blocks: &[u32],
@@ -49,18 +56,16 @@ fn plan_pages(
     m: usize,
     verdicts: &mut [u8],
     order: &mut [u8],
-    out: &mut [u8],
 ) -> usize
     requires { ⌜ Batch (length (now blocks)) (now batch) m ⌝ }
     requires { ⌜ length (now places) ≡ length (now blocks) ⌝ }
     requires { ⌜ Differ (now batch) m ⌝ }
     requires { ⌜ TicketsOf (now batch) m (now tickets) ⌝ }
-    requires { ⌜ (m ≤ length (now verdicts)) × (m ≤ length (now order)) × (m * 512 ≤ length (now out)) ⌝ }
+    requires { ⌜ (m ≤ length (now verdicts)) × (m ≤ length (now order)) ⌝ }
     ensures { λ k. ⌜ (
         let held = versionsIn (now (blocks .entry)) (now (places .entry)) in
-        planned (Answer.Count k) (now (verdicts .exit)) (now (order .exit)) (now (out .exit))
-        ≡ plans (now (batch .entry)) held (sequence held (txAt (now (batch .entry))) m) (now (verdicts .entry))
-        (now (order .entry)) (now (out .entry))
+        Planned (now (batch .entry)) held m (now (verdicts .entry)) (now (order .entry)) k (now (verdicts .exit))
+        (now (order .exit))
         ) ⌝ }
 {
     let current = current(batch, blocks, places, m);
@@ -70,7 +75,6 @@ fn plan_pages(
     let kept = admission::admitted(&blockers, count);
     let k = schedule::fill_order(&blockers, kept, &pages, order);
     fill::fill_verdicts(verdicts, m, current, fill::placed(order, k));
-    fill::fill_out(batch, order, k, out);
     k
 }
 
@@ -91,19 +95,14 @@ pub fn plan_batch(
         ≡ planBatch (now (batch .entry)) s n (now (verdicts .entry)) (now (order .entry)) (now (out .entry))
         ) ⌝ }
 {
-    let found = ledger::batch::front_fault(batch, blocks, places, values, n);
-    if let Finding::Found { refusal } = found {
-        return Answer::Refused { refusal };
-    }
     let m = batch.len() / layout::PAGE;
-    if verdicts.len() < m || order.len() < m || out.len() < m * layout::PAGE {
-        return refusals::refused(refusals::LENT_TOO_SHORT, 0);
-    }
-    let tickets = ledger::batch::tickets(batch, m);
-    let found = ledger::batch::pages_fault(batch, &tickets, blocks.len());
+    let short = lists_short(verdicts, order, m) || out.len() < m * layout::PAGE;
+    let mut tickets = [0u32; layout::MOST_PAGES];
+    let found = ledger::batch::gate_fault(batch, blocks, places, values, n, short, &mut tickets);
     if let Finding::Found { refusal } = found {
         return Answer::Refused { refusal };
     }
-    let count = plan_pages(batch, &tickets, blocks, places, m, verdicts, order, out);
+    let count = plan_pages(batch, &tickets, blocks, places, m, verdicts, order);
+    fill::fill_out(batch, order, count, out);
     Answer::Count { count }
 }

@@ -29,7 +29,7 @@ arrange-short ticket ok (suc n) is = go (those (ok is) is) (λ js. arrange-short
     go [] h = omega arith
     go (f ∷ fs) h = omega (arith, h (without (lowest ticket f fs) is))
 
-order-short : (held : ℕ → Version) (b : ℕ → Tx) (m : ℕ) → length (order b (sequence held b m)) ≤ m
+pub order-short : (held : ℕ → Version) (b : ℕ → Tx) (m : ℕ) → length (order b (sequence held b m)) ≤ m
 unfolding order kept sequence byTicket schedule
 order-short held b m =
     let seq = sequence held b m in

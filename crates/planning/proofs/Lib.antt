@@ -1,3 +1,5 @@
-pub mod Words
-pub mod Opened
 pub mod Few
+pub mod Kept
+pub mod Opened
+pub mod OutBatch
+pub mod Words

@@ -1,28 +1,31 @@
--- `plan_batch`: the stages of the gate in turn, then the pages.
-use Rattle.ledger.proofs.Gated.{front-whole, gate-front, gate-own, gate-pages, Through, through, gateFault}
-use Rattle.ledger.specs.Gate.{pages, lentRow, frontRows, pagesRows}
-use Rattle.ledger.specs.State.{State, stateOf, keys}
-use Rattle.planning.proofs.Opened.{own, plan-refused, plan-open}
+-- `plan_batch`: the gate, rules 1 to 4, then the kept pages.
+use Rattle.ledger.proofs.Gated.{Through, gate-open, gateFault, open-own}
+use Rattle.ledger.specs.Gate.{pages, lentRow}
+use Rattle.ledger.specs.State.{State, stateOf}
+use Rattle.planner.proofs.Answered.{few, named-below, plan-copied}
+use Rattle.planning.proofs.Opened.{own, not-short, plan-refused, plan-open}
 use Rattle.planning.specs.Plan.{short}
-use Rattle.refusals.proofs.Rows.{row-there, one-clear}
 use Rattle.refusals.specs.Fault.{Row, clear, first, finding}
+use Prim.Native.Nat.{ℕ, _*_, _≤_, _<_}
 use borrow.Author.Needs.{needs}
-use borrow.Author.Tests.{lt-ltb, le-ltb, ltb-false}
 use denote.Ref.{now}
 use lib.Dec.{ltb}
-use lib.ListN.{length}
-use mathlib.Core.Bool.{true}
-use mathlib.Core.List.{List, []}
+use lib.ListN.{length, getD}
+use mathlib.Core.Bool.{_||_}
+use mathlib.Core.List.{List, [], _∷_}
 use mathlib.Core.Logic.{⊎-elim}
-use mathlib.Core.Path.{_≡_, refl, sym, ap, _∙_}
+use mathlib.Core.Path.{_≡_, refl, sym, ap, ap₂, _∙_}
 use native.Mathlib.Nat.{mul-comm}
 use native.Mathlib.Omega.{arith}
 use Rattle.planner.proofs.plan.plan_batch.Statement.{statement}
 use Rattle.planner.proofs.plan.plan_batch.Tie as tie
 
--- from the answer of the front: the beginning, and the state and the rows of plan's own there
-abbrev start : tie.After-front-fault → tie.Start
-start f = f .before .before .before .before .before .before .before
+-- from the answer of the gate: the beginning, and the state and the rows of plan's own there
+abbrev begun : tie.Joined1 → tie.Start
+begun j = j .before .before .before .before .before .before .before .before .before .before
+
+abbrev start : tie.After-gate-fault → tie.Start
+start g = begun (g .before .before)
 
 abbrev entered : tie.Start → State
 entered s = stateOf (now (s .args .blocks)) (now (s .args .places)) (now (s .args .values))
@@ -30,106 +33,48 @@ entered s = stateOf (now (s .args .blocks)) (now (s .args .places)) (now (s .arg
 abbrev mine : tie.Start → List Row
 mine s = own (now (s .args .batch)) (entered s) (s .args .n) (now (s .args .verdicts)) (now (s .args .order)) (now (s .args .out))
 
--- the front is clear
-front : (c : tie.After-enum-told) → let s = start (c .before .before) in first (frontRows (now (s .args .batch)) (entered s) (s .args .n)) ≡ clear
-front c = sym (c .before .before .front-fault .ensures) ∙ ap finding (c .enum-told .given .1)
+-- what the gate is told of 14
+is-short : (j : tie.Joined1) → let s = begun j in j .if1 .short ≡ short (now (s .args .batch)) (now (s .args .verdicts)) (now (s .args .order)) (now (s .args .out))
+is-short j =
+    let s = begun j in
+    let m = pages (now (s .args .batch)) in
+    let lists = j .before .lists-short .ensures in
+    ⊎-elim
+    (λ w. w .1 ∙ w .0 .taken ∙ ap (λ x. x || ltb (length (now (s .args .out))) (512 * m)) (sym (w .0 .taken) ∙ lists))
+    (λ w. w .1 ∙ ap₂ (λ x y. x || ltb (length (now (s .args .out))) y) (sym (w .0 .left) ∙ lists) (mul-comm m 512))
+    (j .if1 .came)
 
-abbrev begun : tie.Else3 → tie.Start
-begun c = start (c .before .before .before .before .before)
+-- so its table is plan's
+answered : (g : tie.After-gate-fault) → let s = start g in finding (g .gate-fault .result) ≡ gateFault (mine s) (now (s .args .batch)) (entered s) (s .args .n)
+answered g =
+    let s = start g in
+    g .gate-fault .ensures .0 ∙ ap (λ x. gateFault (lentRow x ∷ []) (now (s .args .batch)) (entered s) (s .args .n)) (is-short (g .before .before))
+
+let-through : (c : tie.After-enum-told) → let s = start (c .before .before) in gateFault (mine s) (now (s .args .batch)) (entered s) (s .args .n) ≡ clear
+let-through c = sym (answered (c .before .before)) ∙ ap finding (c .enum-told .given .1)
+
+gated : (c : tie.After-enum-told) → let s = start (c .before .before) in Through (now (s .args .batch)) (entered s) (s .args .n)
+gated c = let s = start (c .before .before) in gate-open (mine s) (now (s .args .batch)) (entered s) (s .args .n) (let-through c)
 
 -- the lists are long enough
-long : (c : tie.Else3) → first (mine (begun c)) ≡ clear
+long : (c : tie.After-enum-told) → let s = start (c .before .before) in let m = pages (now (s .args .batch)) in
+    (m ≤ length (now (s .args .verdicts))) × (m ≤ length (now (s .args .order))) × (m * 512 ≤ length (now (s .args .out)))
 long c =
-    let s = begun c in
-    let m = pages (now (s .args .batch)) in
-    one-clear 14 0 _
-    (rw (le-ltb (length (now (s .args .verdicts))) m (c .before .before .if1 .left), c .before .if2 .left)
-    (ap (ltb (length (now (s .args .out)))) (mul-comm 512 m) ∙ c .if3 .left))
+    let s = start (c .before .before) in
+    not-short (now (s .args .batch)) (entered s) (s .args .n) (now (s .args .verdicts)) (now (s .args .order)) (now (s .args .out))
+    (open-own (mine s) (now (s .args .batch)) (entered s) (s .args .n) (let-through c))
 
--- so the table is that of the pages
-rest : (c : tie.Else3) → let s = begun c in gateFault (mine s) (now (s .args .batch)) (entered s) (s .args .n) ≡ first (pagesRows (now (s .args .batch)) (keys (entered s)))
-rest c = let s = begun c in gate-pages (mine s) (now (s .args .batch)) (entered s) (s .args .n) (front (c .before .before .before)) (long c)
+lists-short-requires : tie.Need-lists-short-requires
+lists-short-requires c κs = search needs
 
-abbrev asked : tie.After-enum-told2 → tie.Else3
-asked c = c .before .before .before .before .before
+mul-short : tie.Need-mul-short
+mul-short c = search needs
 
--- the pages are clear
-sound : (c : tie.After-enum-told2) → let s = begun (asked c) in first (pagesRows (now (s .args .batch)) (keys (entered s))) ≡ clear
-sound c = sym (c .before .before .pages-fault .ensures) ∙ ap finding (c .enum-told2 .given .1)
-
-gated : (c : tie.After-enum-told2) → let s = begun (asked c) in Through (now (s .args .batch)) (entered s) (s .args .n)
-gated c = through _ _ _ (front (asked c .before .before .before)) (sound c)
-
-front-fault-requires : tie.Need-front-fault-requires
-front-fault-requires c κs = search needs
+gate-fault-requires : tie.Need-gate-fault-requires
+gate-fault-requires c κs = search needs
 
 enum-known-found : tie.Need-enum-known-found
 enum-known-found c = search needs
-
-returns : tie.Need-returns
-returns c =
-    let f = c .before .before .before in
-    let s = start f in
-    plan-refused (now (s .args .batch)) (entered s) (s .args .n) (now (s .args .verdicts)) (now (s .args .order)) (now (s .args .out)) refl
-    (gate-front (mine s) (now (s .args .batch)) (entered s) (s .args .n) (sym (f .front-fault .ensures) ∙ ap finding (c .before .found .given .1)))
-
-enum-told : tie.Need-enum-told
-enum-told c = search needs
-
-mul-if3 : tie.Need-mul-if3
-mul-if3 c = search needs
-
-refused-requires : tie.Need-refused-requires
-refused-requires c κs = search needs
-
-returns-2 : tie.Need-returns-2
-returns-2 c =
-    let e = c .before .before in
-    let s = start (e .before .before) in
-    let v = length (now (s .args .verdicts)) in
-    let o = length (now (s .args .order)) in
-    let m = pages (now (s .args .batch)) in
-    let wrong : short (now (s .args .batch)) (now (s .args .verdicts)) (now (s .args .order)) (now (s .args .out)) ≡ true =
-    ⊎-elim
-    (λ w. rw (lt-ltb v m (w .taken)))
-    (⊎-elim
-    (λ w. rw (le-ltb v m (w .0 .left), w .1 .taken))
-    (λ w. rw (le-ltb v m (w .0 .left), w .1 .left) (ap (ltb (length (now (s .args .out)))) (mul-comm 512 m) ∙ w .2 .taken)))
-    (c .before .if1 .came) in
-    plan-refused (now (s .args .batch)) (entered s) (s .args .n) (now (s .args .verdicts)) (now (s .args .order)) (now (s .args .out)) (c .refused .ensures)
-    (gate-own (mine s) (now (s .args .batch)) (entered s) (s .args .n) (front e) (row-there (lentRow _) [] wrong))
-
-tickets-requires : tie.Need-tickets-requires
-tickets-requires c κs =
-    let s = begun c in
-    omega (arith, front-whole (now (s .args .batch)) (entered s) (s .args .n) (front (c .before .before .before)))
-
-pages-fault-requires : tie.Need-pages-fault-requires
-pages-fault-requires c κs =
-    let e = c .before .before in
-    let s = begun e in
-    (omega (arith, front-whole (now (s .args .batch)) (entered s) (s .args .n) (front (e .before .before .before))), c .before .tickets .ensures)
-
-enum-known-found-2 : tie.Need-enum-known-found-2
-enum-known-found-2 c = search needs
-
-returns-3 : tie.Need-returns-3
-returns-3 c =
-    let f = c .before .before .before in
-    let e = f .before .before .before in
-    let s = begun e in
-    plan-refused (now (s .args .batch)) (entered s) (s .args .n) (now (s .args .verdicts)) (now (s .args .order)) (now (s .args .out)) refl
-    (rest e ∙ sym (f .pages-fault .ensures) ∙ ap finding (c .before .found2 .given .1))
-
-enum-told-2 : tie.Need-enum-told-2
-enum-told-2 c = search needs
-
-plan-pages-requires : tie.Need-plan-pages-requires
-plan-pages-requires c κs =
-    let t = c .before .before .before .before in
-    let e = asked t in
-    let o = gated t in
-    (o .ready, (o .level .places, (o .differ, (t .before .before .before .before .tickets .ensures, (e .before .before .if1 .left, ltb-false _ _ (e .before .if2 .left), ltb-false _ _ (e .if3 .left))))))
 
 same-length : tie.Need-same-length
 same-length c = search needs
@@ -137,36 +82,73 @@ same-length c = search needs
 same-length-2 : tie.Need-same-length-2
 same-length-2 c = search needs
 
+returns : tie.Need-returns
+returns c =
+    let g = c .before .before .before in
+    let s = start g in
+    plan-refused (now (s .args .batch)) (entered s) (s .args .n) (now (s .args .verdicts)) (now (s .args .order)) (now (s .args .out)) refl
+    (sym (answered g) ∙ ap finding (c .before .found .given .1))
+
+enum-told : tie.Need-enum-told
+enum-told c = search needs
+
+plan-pages-requires : tie.Need-plan-pages-requires
+plan-pages-requires c κs =
+    let t = c .before .before .before in
+    let o = gated t in
+    let l = long t in
+    (o .ready, (o .level .places, (o .differ, (t .before .before .gate-fault .ensures .1 (ap finding (t .enum-told .given .1)), (l .0, l .1)))))
+
+-- what rules 1 to 4 left, and the page that an entry of the order names
+abbrev told : tie.After-plan-pages → tie.After-enum-told
+told p = p .before .before .before .before
+
+low : (p : tie.After-plan-pages) (j : ℕ) → j < p .plan-pages .result → getD (p .plan-pages .last .1 .1 .1 .1 .1 .1 .0) j 0 < pages (now (start (told p .before .before) .args .batch))
+low p = named-below _ _ _ _ _ _ _ (p .plan-pages .ensures)
+
+fill-out-requires : tie.Need-fill-out-requires
+fill-out-requires c κs =
+    let p = c .before .before .before .before .before .before in
+    let t = told p in
+    let l = long t in
+    let k = few _ _ _ _ _ _ _ (p .plan-pages .ensures) in (
+      (omega (arith, k, l .1, p .plan-pages .kept), omega (arith, k, l .2)),
+      λ j h. let within : j < p .plan-pages .result = omega arith in omega (arith, low p j within, gated t .ready .whole),
+    )
+
 same-length-3 : tie.Need-same-length-3
 same-length-3 c = search needs
 
-returns-4 : tie.Need-returns-4
-returns-4 c =
-    let w = c .before .before .before .before .before .before in
-    let t = w .before .before .before .before .before in
-    let e = asked t in
-    let s = begun e in
-    w .plan-pages .ensures
-    ∙ plan-open (now (s .args .batch)) (entered s) (s .args .n) (now (s .args .verdicts)) (now (s .args .order)) (now (s .args .out)) (rest e ∙ sound t)
+same-length-4 : tie.Need-same-length-4
+same-length-4 c = search needs
+
+same-length-5 : tie.Need-same-length-5
+same-length-5 c = search needs
+
+returns-2 : tie.Need-returns-2
+returns-2 c =
+    let o = c .before .before in
+    let p = o .before .before .before .before .before .before .before in
+    let t = told p in
+    let s = start (t .before .before) in
+    plan-copied _ _ _ _ _ _ _ (p .plan-pages .ensures) _ _ (o .fill-out .ensures)
+    ∙ plan-open (now (s .args .batch)) (entered s) (s .args .n) (now (s .args .verdicts)) (now (s .args .order)) (now (s .args .out)) (let-through t)
 
 pub plan-batch-spec : {M : Type 1} → statement M
 plan-batch-spec =
     tie.close
     (tie.spec
-    front-fault-requires
+    lists-short-requires
+    mul-short
+    gate-fault-requires
     enum-known-found
-    returns
-    enum-told
-    mul-if3
-    refused-requires
-    returns-2
-    tickets-requires
-    pages-fault-requires
-    enum-known-found-2
-    returns-3
-    enum-told-2
-    plan-pages-requires
     same-length
     same-length-2
+    returns
+    enum-told
+    plan-pages-requires
+    fill-out-requires
     same-length-3
-    returns-4)
+    same-length-4
+    same-length-5
+    returns-2)

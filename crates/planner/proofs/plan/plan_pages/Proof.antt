@@ -8,14 +8,14 @@ use Rattle.sets.specs.Set.{member, members}
 use Rattle.ledger.specs.State.{versionsIn}
 use Rattle.ledger.specs.Gate.{txAt}
 use Rattle.planner.specs.Ranks.{demands, nth, Sound}
-use Rattle.planner.proofs.Joined.{one-ticket, Lined, lined, kept-acyclic, kept-few, filled-low}
+use Rattle.planner.proofs.Steps.{one-ticket, Lined, lined, kept-acyclic, kept-few, filled-low}
 use Rattle.planner.proofs.Answered.{batch-sound, lined-ranked, plan-made}
 use Rattle.planner.proofs.plan.plan_pages.Statement.{statement}
 use Rattle.planner.proofs.plan.plan_pages.Tie as tie
 
 -- from a step: the beginning, and the batch and the set of the current there
 abbrev start : tie.After-current → tie.Start
-start c = c .before .before .before .before .before .before .before
+start c = c .before .before .before .before .before .before
 
 abbrev found : tie.After-by-ticket → tie.After-current
 found b = b .before .before
@@ -51,7 +51,7 @@ low f =
     filled-low (demands (a .before .before .blockers .result)) _ _ (small a) (a .admitted .ensures) _ _ _ _ (line (ranked a)) _ _ _ (f .fill-order .ensures .0) (f .fill-order .ensures .1)
 
 current-requires : tie.Need-current-requires
-current-requires c κs = let s = c .before .before .before .before .before .before in (s .pre .0, s .pre .1 .0)
+current-requires c κs = let s = c .before .before .before .before .before in (s .pre .0, s .pre .1 .0)
 
 by-ticket-requires : tie.Need-by-ticket-requires
 by-ticket-requires c κs =
@@ -83,37 +83,22 @@ fill-verdicts-requires c κs =
     let s = start (found (ranked (judged f))) in
     (s .pre .1 .1 .1 .1 .0, s .pre .0 .few)
 
-fill-out-requires : tie.Need-fill-out-requires
-fill-out-requires c κs =
-    let f = c .before .before .before .before .before .before .before .before .before .before in
-    let s = start (found (ranked (judged f))) in (
-      (
-        omega (arith, room (judged f), f .fill-order .ensures .0, f .fill-order .kept .1 .1 .1 .0, s .pre .1 .1 .1 .1),
-        omega (arith, room (judged f), f .fill-order .ensures .0, s .pre .1 .1 .1 .1),
-      ),
-      λ j h. let within : j < f .fill-order .result = omega arith in omega (arith, low f j within, s .pre .0 .whole),
-    )
-
 same-length : tie.Need-same-length
 same-length c = search needs
 
 same-length-2 : tie.Need-same-length-2
 same-length-2 c = search needs
 
-same-length-3 : tie.Need-same-length-3
-same-length-3 c = search needs
-
 returns : tie.Need-returns
 returns c =
-    let o = c .before .before in
-    let p = o .before .before .before .before .before in
+    let p = c .before .before in
     let f = p .before .before .before .before .before .before in
     let a = judged f in
     let b = ranked a in
     let s = start (found b) in
-    plan-made (now (s .args .batch)) (versionsIn (now (s .args .blocks)) (now (s .args .places))) _ _ (s .pre .0 .whole) (found b .current .ensures)
-    _ (a .before .before .blockers .result) _ _ _ _ _ _ _ _ _ _ (line b) (a .before .before .blockers .ensures) (small a) (a .admitted .ensures) (f .fill-order .ensures .0) (f .fill-order .ensures .1)
-    (p .before .placed .ensures) (p .fill-verdicts .ensures) (o .fill-out .ensures)
+    plan-made (now (s .args .batch)) (versionsIn (now (s .args .blocks)) (now (s .args .places))) _ _ (found b .current .ensures)
+    _ (a .before .before .blockers .result) _ _ _ _ _ _ _ _ (line b) (a .before .before .blockers .ensures) (small a) (a .admitted .ensures) (f .fill-order .ensures .0) (f .fill-order .ensures .1)
+    (p .before .placed .ensures) (p .fill-verdicts .ensures)
 
 pub plan-pages-spec : {M : Type 1} → statement M
 plan-pages-spec =
@@ -126,8 +111,6 @@ plan-pages-spec =
     fill-order-requires
     placed-requires
     fill-verdicts-requires
-    fill-out-requires
     same-length
     same-length-2
-    same-length-3
     returns)

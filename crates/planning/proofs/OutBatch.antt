@@ -5,7 +5,7 @@ use native.Mathlib.Omega.{arith}
 use mathlib.Core.Bool.{false}
 use mathlib.Core.List.{List, [], _∷_, _++_, map, map-append, List·Memᴰ·head, List·Memᴰ·tail}
 use mathlib.Core.Path.{_≡_, refl, sym, ap, _∙_}
-use lib.ListN.{length, getD, take, drop}
+use lib.ListN.{length, getD, take, drop, length-append}
 use lib.Seq.{take-at, drop-append-add}
 use lib.Dec.{T, eqb, ltb}
 use borrow.Author.Tests.{le-ltb, ne-eqb}
@@ -21,8 +21,7 @@ use Rattle.ledger.specs.Gate.{pages, txAt, txs, rowsAt, again, beyond, lentRow,
 use Rattle.ledger.specs.Commit.{commitRows}
 use Rattle.lists.proofs.Tables.{tab-same, tab-list}
 use Rattle.ledger.proofs.Gated.{page-long, good-at, pages-rest, front-clear, front-good, gate-pages, open-front, not-wrong, Through, gateFault}
 use Rattle.planning.specs.Plan.{gathered}
-use Rattle.planner.proofs.Filling.{gathered-long}
 
 -- ---- lists
 
@@ -36,6 +35,16 @@ tab-map : {X : Type 0} (f : ℕ → X) (is : List ℕ) → tab (length is) (λ j
 tab-map f is = sym (map-tab f (λ j. getD is j 0) (length is)) ∙ ap (map f) (tab-list is 0)
 
 -- ---- pages gathered
+
+-- as many bytes as pages of 512
+pub gathered-long :
+    (batch is : List ℕ) → ((i : ℕ) → i ∈ is → i * 512 + 512 ≤ length batch) → length (gathered batch is) ≡ length is * 512
+unfolding gathered
+gathered-long batch [] f = refl
+gathered-long batch (i ∷ is) f =
+    let a = page-long batch i (f i (List·Memᴰ·head refl)) in
+    let b = gathered-long batch is (λ j m. f j (List·Memᴰ·tail m)) in
+    length-append (pageAt batch i) (gathered batch is) ∙ omega arith
 
 -- a page in front of others, and those behind it
 pub page-first : (p rest : List ℕ) → length p ≡ 512 → pageAt (p ++ rest) 0 ≡ p

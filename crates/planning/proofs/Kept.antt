@@ -60,6 +60,13 @@ module _ (held : ℕ → Version) (b : ℕ → Tx) (m : ℕ) (seq : List ℕ) (q
 
   pub kept-below : {i : ℕ} → i ∈ kept b seq → i < m
   kept-below k = upto-below m (kept-from k .0)
+
+  -- each page of the order is one of the batch, and stands there once
+  pub order-below : {i : ℕ} → i ∈ order b seq → i < m
+  order-below k = kept-below (perm-in (Permᴰ·symm (own-order .all-once)) k)
+
+  pub order-distinct : T (distinct (order b seq))
+  order-distinct = perm-distinct (own-order .all-once) kept-distinct
 
   -- verdict 0 is for the kept
   pub verdict-kept : (i : ℕ) → (verdict held b seq i ≡ 0) ↔ (i ∈ kept b seq)

@@ -1,4 +1,4 @@
-/* Batch planner and committer: the six services, from the static library libnode.a.
+/* Batch planner and committer: the seven services, from the static library libnode.a.
  *
  * Every service returns one word.
  *   Refused:  the refusal number in the upper 32 bits, its place in the lower 32.
@@ -26,7 +26,8 @@
  *  11 | batch over 32768 bytes or no multiple of 512                       | 0
  *  12 | state lists unequal, empty or over 1024                            | 0
  *  13 | state entry of another form, or present with block not below n     | lowest key
- *  14 | verdicts or order shorter than m, or out batch shorter than 512m   | 0
+ *  14 | verdicts or order shorter than m, or out batch shorter than 512m,  | 0
+ *     | each where it is lent                                              |
  *  15 | ticket already on an earlier page                                  | lowest such page
  *  16 | key not below K                                                    | lowest such page
  *  17 | page index not below the whole pages lent                          | 0
@@ -37,7 +38,7 @@
  * m is the number of pages of a batch, K the length of the state lists.
  * A byte is the offset of the fault within the page. Read i starts at byte 8 + 8i, write i at 8 + 8r + 12i; of two keys that
  * do not rise, the later is bad. Writing a page gives the byte that the count or the entry would have, whatever the index.
- * Plan and commit give 512 times the page plus the byte: 1564 is byte 28 of page 3.
+ * A service on a batch gives 512 times the page plus the byte: 1564 is byte 28 of page 3.
  *
  * The forms that the table speaks of:
  *   version of a read   absent, which is block 0 and place 65535; or any block with a place of 0 to 63
@@ -101,8 +102,27 @@ uint64_t nevolisca_write_page(uint8_t *batch, size_t len, size_t index,
                               const uint16_t read_keys[32], const uint16_t read_places[32], const uint32_t read_blocks[32],
                               const uint16_t write_keys[32], const uint16_t write_kinds[32], const int64_t write_values[32]);
 
-/* Plans a batch of m pages over a state under the number n. The state is three lists of one length K, 1 to 1024:
- * key k is entry k of blocks, places and values. Every present entry has a block below n.
+/* The state is three lists of one length K, 1 to 1024: key k is entry k of blocks, places and values. Every present entry has
+ * a block below n.
+ *
+ * The ordinary batch: plans a batch of m pages under the number n and commits the kept ones, in one call.
+ * Lent: batch, n, and the state. Filled:
+ *   verdicts                 the first m: 0 kept, 1 stale, 2 cycle
+ *   order                    the first k: the page indexes of the kept, in schedule order
+ *   blocks, places, values   the state after the kept pages, in that order; the page at place p of it writes version (n, p)
+ * Further entries stay. All is as nevolisca_plan and then nevolisca_commit of the first 512k bytes of its out batch leave it;
+ * no out batch is lent, and no page is copied. None of the kept fails.
+ * Returns k, the kept count, or the first refusal, in the order of nevolisca_plan; 14 asks for verdicts and order only.
+ */
+uint64_t nevolisca_plan_and_commit(const uint8_t *batch, size_t len,
+                                   uint32_t *blocks, size_t blocks_len,
+                                   uint16_t *places, size_t places_len,
+                                   int64_t *values, size_t values_len,
+                                   uint32_t n,
+                                   uint8_t *verdicts, size_t verdicts_len,
+                                   uint8_t *order, size_t order_len);
+
+/* Plans a batch of m pages over a state under the number n, and changes no state.
  * Lent: batch, blocks, places, values, n. Filled:
  *   verdicts   the first m: 0 kept, 1 stale, 2 cycle
  *   order      the first k: the page indexes of the kept, in schedule order

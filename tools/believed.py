@@ -12,11 +12,11 @@ BELIEVED = {
     "refusals and lists": "refusals/Outcome refusals/Fault lists/Members lists/Tables lists/Search lists/Ascii",
     "pages, state, gate and commit": "octets/Bytes ledger/Version ledger/Value ledger/Tx ledger/Page ledger/State "
     "ledger/Gate ledger/Commit ledger/Services",
-    "planning": "orders/Chain orders/Admission orders/Arrange planning/Plan",
+    "planning": "orders/Chain orders/Admission orders/Arrange planning/Plan planning/Joined",
     "tonnage texts": "tonnage/Text tonnage/Services",
     "the listing": "report/Listing report/Program",
     "the services for C": "node/Word node/Lent",
-    "the demands as statements": "claims/Serial claims/Third tonnage/Grammar ledger/Byte claims/Programs claims/Cases "
+    "the demands as statements": "claims/Serial claims/Third claims/Joined tonnage/Grammar ledger/Byte claims/Programs claims/Cases "
     "claims/Shown claims/Letter",
 }
 INNER = {

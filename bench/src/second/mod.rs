@@ -1,8 +1,9 @@
-//! The second opinion: all six services in plain safe Rust, written from documents 01 and 02 alone.
+//! The second opinion: all seven services in plain safe Rust, written from documents 01 and 02 alone.
 #![forbid(unsafe_code)]
 
 mod commit;
 mod gate;
+mod joined;
 mod offset;
 mod page;
 mod plan;
@@ -12,6 +13,7 @@ mod tonnage;
 
 pub use commit::commit;
 pub use gate::gate;
+pub use joined::plan_and_commit;
 pub use page::{read_page, write_page, Page, Read, Transaction, Write, ENTRIES, PAGE};
 pub use plan::{current, plan, KEPT};
 pub use state::{State, StateMut, Version};

@@ -28,24 +28,29 @@ pub fn plan(
     let pages = gate(batch, state, n, |m| {
         verdicts.len() >= m && order.len() >= m && out.len() >= m * PAGE
     })?;
-    verdicts[..pages.len()].fill(STALE);
-    let candidates = by_ticket(&pages, state);
-    let demands = Demands::among(&pages, &candidates, state.keys());
-    let kept = demands.kept();
-    for (rank, &index) in candidates.iter().enumerate() {
-        verdicts[index] = if kept >> rank & 1 == 1 { KEPT } else { CYCLE };
-    }
-    let schedule = demands.schedule(kept);
-    for ((slot, place), &rank) in order
+    let schedule = decide(&pages, state, verdicts);
+    for ((slot, place), &index) in order
         .iter_mut()
         .zip(out.chunks_exact_mut(PAGE))
         .zip(&schedule)
     {
-        let index = candidates[rank];
         *slot = index as u8;
         place.copy_from_slice(pages[index].bytes);
     }
     Ok(schedule.len() as u32)
+}
+
+/// Rules 1 to 4 on the pages of a batch: fills the verdicts, and gives the indexes of the kept pages in schedule order.
+pub(super) fn decide(pages: &[Page<'_>], state: State<'_>, verdicts: &mut [u8]) -> Vec<usize> {
+    verdicts[..pages.len()].fill(STALE);
+    let candidates = by_ticket(pages, state);
+    let demands = Demands::among(pages, &candidates, state.keys());
+    let kept = demands.kept();
+    for (rank, &index) in candidates.iter().enumerate() {
+        verdicts[index] = if kept >> rank & 1 == 1 { KEPT } else { CYCLE };
+    }
+    let schedule = demands.schedule(kept).into_iter();
+    schedule.map(|rank| candidates[rank]).collect()
 }
 
 /// The indexes of the current pages, by rising ticket.

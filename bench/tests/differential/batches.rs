@@ -1,6 +1,8 @@
 //! States and batches to plan and commit: with few and many conflicts, and with every kind of fault.
 
 use crate::cases::{Commit, Lists, Plan};
+use crate::joined::PlanAndCommit;
+use crate::outcome::Case;
 use crate::pages::{lay, mend, spoil, value_of, version, EDGE_BLOCKS};
 use crate::tally::Tally;
 use nevolisca_bench::random::Random;
@@ -226,11 +228,17 @@ fn spoil_length(random: &mut Random, batch: &mut Vec<u8>, how: usize) {
     }
 }
 
-/// Plans and commits batches of every kind; what planning kept is committed too.
+/// Plans a batch, and plans and commits it at once.
+fn run_plan(tally: &mut Tally, plan: &Plan) {
+    tally.run(plan);
+    tally.run(&PlanAndCommit::from(plan));
+}
+
+/// Plans and commits batches of every kind, in two calls and at once; what planning kept is committed too.
 pub fn batches(random: &mut Random, tally: &mut Tally, count: usize) {
     for _ in 0..count {
         let plan = draw(random);
-        tally.run(&plan);
+        run_plan(tally, &plan);
         tally.run(&Commit {
             batch: plan.batch.clone(),
             state: plan.state.clone(),
@@ -241,14 +249,15 @@ pub fn batches(random: &mut Random, tally: &mut Tally, count: usize) {
 }
 
 /// The out batch of a plan, committed under the same number: the order matters, and none may fail.
-fn commit_the_kept(plan: Plan, tally: &mut Tally) {
-    use crate::outcome::Case;
+fn commit_the_kept(mut plan: Plan, tally: &mut Tally) {
     let outcome = plan.by_second();
-    let (Ok(kept), Some((_, out))) = (outcome.answer, outcome.lent.last()) else {
+    let Ok(kept) = outcome.answer else {
         return;
     };
+    plan.batch = outcome.list("out")[..kept as usize * PAGE].to_vec();
+    plan_again(&plan, kept, tally);
     let case = Commit {
-        batch: out[..kept as usize * PAGE].to_vec(),
+        batch: plan.batch,
         state: plan.state,
         verdicts: plan.verdicts,
     };
@@ -257,6 +266,16 @@ fn commit_the_kept(plan: Plan, tally: &mut Tally) {
         Ok(kept),
         "the kept pages pass: {case:?}"
     );
+    tally.run(&case);
+}
+
+/// An out batch, planned and committed at once: all of it is kept, each page at its place.
+fn plan_again(plan: &Plan, kept: u32, tally: &mut Tally) {
+    let case = PlanAndCommit::from(plan);
+    let outcome = case.by_node();
+    assert_eq!(outcome.answer, Ok(kept), "all are kept: {case:?}");
+    let order = outcome.list("order").iter().take(kept as usize);
+    assert!(order.copied().eq(0..kept as u8), "as they stand: {case:?}");
     tally.run(&case);
 }
 
@@ -302,7 +321,7 @@ pub fn all_of_three(tally: &mut Tally) {
     for choice in 0..1u16 << 12 {
         let set = |page: u16| (choice >> (4 * page) & 3, choice >> (4 * page + 2) & 3);
         for tickets in &ORDERS {
-            tally.run(&small(&[set(0), set(1), set(2)], tickets, 2));
+            run_plan(tally, &small(&[set(0), set(1), set(2)], tickets, 2));
         }
     }
 }
@@ -312,6 +331,6 @@ pub fn all_of_four(tally: &mut Tally) {
     for choice in 0..1u32 << 16 {
         let key = |at: u32| 1u16 << (choice >> (2 * at) & 3);
         let sets = [0, 1, 2, 3].map(|page| (key(2 * page), key(2 * page + 1)));
-        tally.run(&small(&sets, &[0, 1, 2, 3], 4));
+        run_plan(tally, &small(&sets, &[0, 1, 2, 3], 4));
     }
 }

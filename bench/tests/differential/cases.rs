@@ -1,4 +1,5 @@
-//! The six services as cases: the same call for the proved side, with canaries, and for the second opinion.
+//! The services as cases: the same call for the proved side, with canaries, and for the second opinion. The joined call
+//! stands in joined.rs.
 
 use crate::guarded::{bytes_of, Guarded};
 use crate::outcome::{take, Case, Lent, Outcome, Service};
@@ -7,7 +8,7 @@ use nevolisca_bench::node::{self, Parts, PartsMut};
 use nevolisca_bench::second::{self, Read, State, StateMut, Version, Write};
 
 /// An outcome to which the lists are still to be added.
-fn outcome(answer: Answer) -> Outcome {
+pub fn outcome(answer: Answer) -> Outcome {
     Outcome {
         answer,
         lent: Vec::new(),
@@ -209,7 +210,7 @@ impl Lists {
         }
     }
 
-    fn view_mut(&mut self) -> StateMut<'_> {
+    pub fn view_mut(&mut self) -> StateMut<'_> {
         StateMut {
             blocks: &mut self.blocks,
             places: &mut self.places,
@@ -217,12 +218,35 @@ impl Lists {
         }
     }
 
-    fn bytes(&self) -> Lent {
+    pub fn bytes(&self) -> Lent {
         vec![
             ("blocks", bytes_of(&self.blocks)),
             ("places", bytes_of(&self.places)),
             ("values", bytes_of(&self.values)),
         ]
+    }
+}
+
+/// The three lists of a state, each with its own canaries.
+pub struct GuardedState {
+    pub blocks: Guarded<u32>,
+    pub places: Guarded<u16>,
+    pub values: Guarded<i64>,
+}
+
+impl GuardedState {
+    pub fn around(state: &Lists) -> Self {
+        GuardedState {
+            blocks: Guarded::around(&state.blocks),
+            places: Guarded::around(&state.places),
+            values: Guarded::around(&state.values),
+        }
+    }
+
+    pub fn take_into(&self, outcome: &mut Outcome) {
+        take(outcome, "blocks", &self.blocks);
+        take(outcome, "places", &self.places);
+        take(outcome, "values", &self.values);
     }
 }
 
@@ -250,25 +274,21 @@ impl Case for Plan {
 
     fn by_node(&self) -> Outcome {
         let batch = Guarded::around(&self.batch);
-        let blocks = Guarded::around(&self.state.blocks);
-        let places = Guarded::around(&self.state.places);
-        let values = Guarded::around(&self.state.values);
+        let state = GuardedState::around(&self.state);
         let mut verdicts = Guarded::around(&self.verdicts);
         let mut order = Guarded::around(&self.order);
         let mut out = Guarded::around(&self.out);
         let mut outcome = outcome(node::plan(
             batch.lent(),
-            blocks.lent(),
-            places.lent(),
-            values.lent(),
+            state.blocks.lent(),
+            state.places.lent(),
+            state.values.lent(),
             self.state.n,
             verdicts.lent_mut(),
             order.lent_mut(),
             out.lent_mut(),
         ));
-        take(&mut outcome, "blocks", &blocks);
-        take(&mut outcome, "places", &places);
-        take(&mut outcome, "values", &values);
+        state.take_into(&mut outcome);
         take(&mut outcome, "batch", &batch);
         take(&mut outcome, "verdicts", &verdicts);
         take(&mut outcome, "order", &order);
@@ -311,21 +331,17 @@ impl Case for Commit {
 
     fn by_node(&self) -> Outcome {
         let batch = Guarded::around(&self.batch);
-        let mut blocks = Guarded::around(&self.state.blocks);
-        let mut places = Guarded::around(&self.state.places);
-        let mut values = Guarded::around(&self.state.values);
+        let mut state = GuardedState::around(&self.state);
         let mut verdicts = Guarded::around(&self.verdicts);
         let mut outcome = outcome(node::commit(
             batch.lent(),
-            blocks.lent_mut(),
-            places.lent_mut(),
-            values.lent_mut(),
+            state.blocks.lent_mut(),
+            state.places.lent_mut(),
+            state.values.lent_mut(),
             self.state.n,
             verdicts.lent_mut(),
         ));
-        take(&mut outcome, "blocks", &blocks);
-        take(&mut outcome, "places", &places);
-        take(&mut outcome, "values", &values);
+        state.take_into(&mut outcome);
         take(&mut outcome, "batch", &batch);
         take(&mut outcome, "verdicts", &verdicts);
         outcome

@@ -4,10 +4,12 @@
 mod batches;
 mod cases;
 mod guarded;
+mod joined;
 mod noticed;
 mod outcome;
 mod pages;
 mod places;
+mod spoiled;
 mod tally;
 mod texts;
 
@@ -43,6 +45,7 @@ fn the_two_opinions_agree() {
     batches::batches(&mut random, &mut tally, BATCHES);
     places::pages(&mut random, &mut Some(&mut tally));
     places::batches(&mut random, &mut Some(&mut tally));
+    joined::short_lists(&mut Some(&mut tally));
     batches::all_of_three(&mut tally);
     batches::all_of_four(&mut tally);
     texts::all_short_texts(&mut tally);

@@ -37,18 +37,13 @@ fn reader_and_writer() -> Plan {
     }
 }
 
-fn list<'a>(outcome: &'a mut Outcome, name: &str) -> &'a mut Vec<u8> {
-    let mut lists = outcome.lent.iter_mut();
-    &mut lists.find(|(other, _)| *other == name).expect("a list").1
-}
-
 #[test]
 fn a_turned_order_is_noticed() {
     let case = reader_and_writer();
     let (before, right) = (case.lent(), case.by_second());
     assert_eq!(compare(&before, &right, &right), Ok(()));
     let mut wrong = right.clone();
-    list(&mut wrong, "order").swap(0, 1);
+    wrong.list_mut("order").swap(0, 1);
     let difference = compare(&before, &wrong, &right).expect_err("noticed");
     assert_eq!(difference, "order differs at byte Some(0)");
 }
@@ -91,7 +86,7 @@ fn a_change_on_a_refusal_is_noticed_even_when_both_make_it() {
     let (before, mut both) = (case.lent(), case.by_second());
     assert!(both.answer.is_err());
     assert_eq!(compare(&before, &both, &both.clone()), Ok(()));
-    list(&mut both, "verdicts")[2] ^= 1;
+    both.list_mut("verdicts")[2] ^= 1;
     assert!(compare(&before, &both, &both.clone()).is_err());
 }
 
@@ -125,7 +120,7 @@ impl Case for StartOnly {
 
     fn by_node(&self) -> Outcome {
         let mut wrong = self.0.by_node();
-        list(&mut wrong, "verdicts")[1] = 0;
+        wrong.list_mut("verdicts")[1] = 0;
         wrong.answer = Ok(2);
         wrong
     }

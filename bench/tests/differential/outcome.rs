@@ -3,13 +3,14 @@
 use crate::guarded::{bytes_of, Entry, Guarded};
 use nevolisca_bench::answer::Answer;
 
-/// A service of document 01.
+/// A service of documents 01 and 02.
 #[derive(Clone, Copy, Debug, PartialEq, Eq)]
 pub enum Service {
     ReadPage,
     WritePage,
     Plan,
     Commit,
+    PlanAndCommit,
     ReadTonnage,
     WriteTonnage,
 }
@@ -25,6 +26,20 @@ pub struct Outcome {
     pub guards_stand: bool,
 }
 
+impl Outcome {
+    /// A lent list by its name, as it is afterwards.
+    pub fn list(&self, name: &str) -> &[u8] {
+        let mut lists = self.lent.iter();
+        &lists.find(|(other, _)| *other == name).expect("a list").1
+    }
+
+    /// The same list, to be changed.
+    pub fn list_mut(&mut self, name: &str) -> &mut Vec<u8> {
+        let mut lists = self.lent.iter_mut();
+        &mut lists.find(|(other, _)| *other == name).expect("a list").1
+    }
+}
+
 /// One call that both opinions are asked for.
 pub trait Case: std::fmt::Debug {
     const SERVICE: Service;
@@ -32,6 +47,10 @@ pub trait Case: std::fmt::Debug {
     fn lent(&self) -> Lent;
     fn by_node(&self) -> Outcome;
     fn by_second(&self) -> Outcome;
+    /// What other proved calls leave that this one is to equal, where there are such.
+    fn by_two_calls(&self) -> Option<Outcome> {
+        None
+    }
 }
 
 /// Adds a guarded list to what a call left.
@@ -40,16 +59,16 @@ pub fn take<T: Entry>(outcome: &mut Outcome, name: &'static str, list: &Guarded<
     outcome.guards_stand &= list.stands();
 }
 
-/// Says how the proved services' outcome differs from the second opinion, or from the rule on refusals.
-pub fn compare(before: &Lent, node: &Outcome, second: &Outcome) -> Result<(), String> {
+/// Says how the proved services' outcome differs from another, or from the rule on refusals.
+pub fn compare(before: &Lent, node: &Outcome, other: &Outcome) -> Result<(), String> {
     if !node.guards_stand {
         return Err("a canary was written".to_string());
     }
-    if node.answer != second.answer {
-        let (ours, theirs) = (node.answer, second.answer);
-        return Err(format!("answers differ: node {ours:?}, second {theirs:?}"));
+    if node.answer != other.answer {
+        let (ours, theirs) = (node.answer, other.answer);
+        return Err(format!("answers differ: {ours:?}, not {theirs:?}"));
     }
-    same_lists(&node.lent, &second.lent)?;
+    same_lists(&node.lent, &other.lent)?;
     if node.answer.is_err() {
         same_lists(&node.lent, before).map_err(|text| format!("changed on a refusal: {text}"))?;
     }

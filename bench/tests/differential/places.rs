@@ -2,6 +2,7 @@
 //! The answer that is due is known from how the fault was made, so that the second opinion is held to it too.
 
 use crate::cases::{Commit, Lists, Plan, ReadPage, WritePage};
+use crate::joined::PlanAndCommit;
 use crate::outcome::Case;
 use crate::pages::{
     entries, lay, mend, noise, transaction_of, EDGE_KINDS, EDGE_PLACES, EDGE_VALUES,
@@ -73,7 +74,7 @@ pub fn offsets(number: usize) -> BTreeSet<usize> {
     }
 }
 
-fn refused(number: usize, place: usize) -> Answer {
+pub fn refused(number: usize, place: usize) -> Answer {
     Err(Refusal {
         number: number as u32,
         place: place as u32,
@@ -192,7 +193,7 @@ fn head_page(random: &mut Random, number: usize, at: usize) -> Vec<u8> {
 }
 
 /// Holds the second opinion to the answer that is due, and where there is a tally the two opinions to each other.
-fn run<C: Case>(tally: &mut Option<&mut Tally>, case: &C, due: Answer) {
+pub fn run<C: Case>(tally: &mut Option<&mut Tally>, case: &C, due: Answer) {
     assert_eq!(case.by_second().answer, due, "{case:?}");
     if let Some(tally) = tally {
         tally.run(case);
@@ -260,6 +261,7 @@ pub fn batches(random: &mut Random, tally: &mut Option<&mut Tally>) {
             let due = refused(number, PAGE * index + at);
             let plan = batch_with(random, index, &bad);
             run(tally, &plan, due);
+            run(tally, &PlanAndCommit::from(&plan), due);
             let (batch, state, verdicts) = (plan.batch, plan.state, plan.verdicts);
             let commit = Commit {
                 batch,

@@ -9,23 +9,39 @@ use std::ops::RangeInclusive;
 /// The highest refusal number.
 const LAST: usize = 20;
 
-const SERVICES: [(Service, &str); 6] = [
+const SERVICES: [(Service, &str); 7] = [
     (Service::ReadPage, "read page"),
     (Service::WritePage, "write page"),
     (Service::Plan, "plan"),
     (Service::Commit, "commit"),
+    (Service::PlanAndCommit, "plan and commit"),
     (Service::ReadTonnage, "read tonnage"),
     (Service::WriteTonnage, "write tonnage"),
 ];
 
-/// The refusal numbers that document 01 lets a service give.
+/// The services that take a batch.
+fn on_batches(service: Service) -> bool {
+    use Service::{Commit, Plan, PlanAndCommit};
+    matches!(service, Plan | Commit | PlanAndCommit)
+}
+
+/// The refusal numbers that the documents let a service give.
 fn named(service: Service) -> &'static [RangeInclusive<usize>] {
     match service {
         Service::ReadPage => &[1..=10],
         Service::WritePage => &[4..=9, 17..=17],
-        Service::Plan | Service::Commit => &[2..=16],
+        Service::Plan | Service::Commit | Service::PlanAndCommit => &[2..=16],
         Service::ReadTonnage => &[18..=19],
         Service::WriteTonnage => &[20..=20],
+    }
+}
+
+/// The verdicts that a service gives, with their words.
+fn verdicts(service: Service) -> &'static [(usize, &'static str)] {
+    match service {
+        Service::Plan | Service::PlanAndCommit => &[(0, "kept"), (1, "stale"), (2, "cycle")],
+        Service::Commit => &[(0, "passes"), (3, "fails")],
+        _ => &[],
     }
 }
 
@@ -41,8 +57,11 @@ impl Tally {
     /// Asks both opinions, compares them, and counts the answer.
     pub fn run<C: Case>(&mut self, case: &C) {
         let (before, node, second) = (case.lent(), case.by_node(), case.by_second());
-        if let Err(difference) = compare(&before, &node, &second) {
-            panic!("{:?}: {difference}\n{case:?}", C::SERVICE);
+        let two_calls = case.by_two_calls().map(|other| ("the two calls", other));
+        for (name, other) in std::iter::once(("the second opinion", second)).chain(two_calls) {
+            if let Err(difference) = compare(&before, &node, &other) {
+                panic!("{:?} beside {name}: {difference}\n{case:?}", C::SERVICE);
+            }
         }
         let row = C::SERVICE as usize;
         match node.answer {
@@ -68,6 +87,13 @@ impl Tally {
         }
     }
 
+    /// How often a service gave each of its verdicts, by the verdict's word.
+    fn verdicts_of(&self, service: Service) -> impl Iterator<Item = (&'static str, u64)> {
+        let row = self.verdicts[service as usize];
+        let verdicts = verdicts(service).iter();
+        verdicts.map(move |&(verdict, word)| (word, row[verdict]))
+    }
+
     /// Prints the table, one line per service, each line with the same first word.
     pub fn print(&self) {
         for (service, name) in SERVICES {
@@ -76,13 +102,14 @@ impl Tally {
             let counts: Vec<String> = numbers
                 .map(|number| format!("{number}: {}", row[number]))
                 .collect();
-            println!("answers: {name:<13} good {}, {}", row[0], counts.join(", "));
+            println!("answers: {name:<15} good {}, {}", row[0], counts.join(", "));
         }
-        let [_, _, plan, commit, _, _] = self.verdicts;
-        let (kept, stale, cycle) = (plan[0], plan[1], plan[2]);
-        println!("answers: plan's verdicts: kept {kept}, stale {stale}, cycle {cycle}");
-        let (passes, fails) = (commit[0], commit[3]);
-        println!("answers: commit's verdicts: passes {passes}, fails {fails}");
+        for (service, name) in SERVICES.into_iter().filter(|one| on_batches(one.0)) {
+            let counts = self.verdicts_of(service);
+            let counts = counts.map(|(word, count)| format!("{word} {count}"));
+            let counts: Vec<String> = counts.collect();
+            println!("answers: verdicts of {name}: {}", counts.join(", "));
+        }
     }
 
     /// Whether a number of 2 to 10 occurred at each offset that it can have and at no other, of a batch on each page.
@@ -90,10 +117,7 @@ impl Tally {
         let places = &self.places[service as usize][number];
         let on_page: BTreeSet<usize> = places.iter().map(|place| place % PAGE).collect();
         let pages: BTreeSet<usize> = places.iter().map(|place| place / PAGE).collect();
-        let most = match service {
-            Service::Plan | Service::Commit => MOST_PAGES,
-            _ => 1,
-        };
+        let most = if on_batches(service) { MOST_PAGES } else { 1 };
         on_page == offsets(number) && pages.into_iter().eq(0..most)
     }
 
@@ -116,9 +140,10 @@ impl Tally {
                 }
             }
         }
-        let [_, _, plan, commit, _, _] = self.verdicts;
-        if plan[..3].contains(&0) || commit[0] == 0 || commit[3] == 0 {
-            faults.push("a verdict never occurred".to_string());
+        for (service, name) in SERVICES {
+            for (word, _) in self.verdicts_of(service).filter(|(_, count)| *count == 0) {
+                faults.push(format!("{name}: verdict {word} never occurred"));
+            }
         }
         faults
     }

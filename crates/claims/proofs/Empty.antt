@@ -33,11 +33,12 @@ use Rattle.ledger.specs.Gate.{pages, txAt, txs, frontRows, pagesRows, gateRows}
 use Rattle.ledger.specs.Commit.{passes, stamp, write, afterPage, verdicts, passed, Commits, commitBatch}
 use Rattle.ledger.specs.Commit.{commit as commitAll}
 use Rattle.planning.specs.Plan.{Plans, planBatch}
+use Rattle.planning.specs.Joined.{Joined}
 use Rattle.claims.specs.Cases.{commit, Holds, tx, put, fresh, number, batchOf, crossing, readerFirst, failing, withCounts, bytes7}
 use Rattle.claims.specs.Third.{verdictAt, zeros}
-use Rattle.claims.specs.Programs.{Program, PageReader, PageWriter, Planner, Committer, TextReader, TextWriter}
-use Rattle.claims.specs.Programs.{PageLent, PlanLent, CommitLent, TextLent}
-use Rattle.claims.specs.Programs.{bytes, pageFits, planFits, commitFits, textFits}
+use Rattle.claims.specs.Programs.{Program, PageReader, PageWriter, Planner, Committer, JoinedCall, TextReader, TextWriter}
+use Rattle.claims.specs.Programs.{PageLent, PlanLent, CommitLent, JoinedLent, TextLent}
+use Rattle.claims.specs.Programs.{bytes, pageFits, planFits, commitFits, joinedFits, textFits}
 use Rattle.claims.proofs.Demand3.{demand-3}
 use Rattle.claims.proofs.Table as table
 
@@ -65,6 +66,9 @@ planOn xs = record {
   out = replicate 1024 9;
 }
 
+abbrev joinedOn : List Tx → JoinedLent
+joinedOn xs = record { batch = batchOf xs; state = fresh; number = number; verdicts = replicate 2 9; order = replicate 2 9 }
+
 abbrev commitOn : List Tx → CommitLent
 commitOn xs = record { batch = batchOf xs; state = fresh; number = number; verdicts = replicate 2 9 }
 
@@ -87,6 +91,10 @@ module _ where
   reader-fits : T (planFits (planOn readerFirst))
   unfolding batchOf pageOf bodyOf weighed le flat
   reader-fits = tt
+
+  joined-fits : T (joinedFits (joinedOn crossing))
+  unfolding batchOf pageOf bodyOf weighed le flat
+  joined-fits = tt
 
   failing-fits : T (commitFits (commitOn failing))
   unfolding batchOf pageOf bodyOf weighed le flat
@@ -127,7 +135,7 @@ pair-first : entry (write (stamp number 0) fresh (txAt (batchOf pair) 0 .writes)
 unfolding entry store write batchOf pageOf bodyOf weighed le flat tab field pageTx
 pair-first = refl
 
--- ---- "a service that refuses all": none of the six can
+-- ---- "a service that refuses all": none of the seven can
 
 pub reads-no-page : (p : PageReader) → ((x : List ℕ) → T (bytes x) → (r : Refusal) × (p .does x .check ≡ Bad r)) → ⊥
 reads-no-page p f =
@@ -152,6 +160,11 @@ commits-none p f =
     let w = f (commitOn failing) failing-fits in
     no-refusal p (λ (k : Commits). k .answer) (commitOn failing) failing-fits 1 (w .0)
     (table.commit-failing .0) (ap outcome (w .1))
+
+pub joins-none : (p : JoinedCall) → ((x : JoinedLent) → T (joinedFits x) → (r : Refusal) × (p .does x .answer ≡ Refused r)) → ⊥
+joins-none p f =
+    let w = f (joinedOn crossing) joined-fits in
+    no-refusal p (λ (k : Joined). k .answer) (joinedOn crossing) joined-fits 1 (w .0) (table.joined-clash .0) (ap outcome (w .1))
 
 pub reads-no-text : (p : TextReader) → ((x : List ℕ) → T (bytes x) → (r : Refusal) × (p .does x ≡ Unread r)) → ⊥
 reads-no-text p f =
@@ -271,3 +284,19 @@ module _ (p : Committer) where
       let e : _≡_ {A = ℕ} 65535 1 =
       sym pair-first ∙ ap (λ (s : State). entry s 4 .version .place) (sym same) ∙ ap (λ (z : Entry). z .version .place) new in
       omega arith
+
+-- ---- joined calls
+
+-- a joined call that plans and leaves the state of each batch that it does not refuse
+pub joins-idle :
+    (p : JoinedCall) →
+    ((x : JoinedLent) → T (joinedFits x) → (k : ℕ) → p .does x .answer ≡ Count k → p .does x .state ≡ x .state) → ⊥
+unfolding entry
+joins-idle p f =
+    let x = joinedOn crossing in
+    let a = counted-answer (p .does x .answer) 1 (answers p (λ (y : Joined). y .answer) x joined-fits (gives 1) (table.joined-clash .0)) in
+    let same = f x joined-fits 1 a in
+    let new = ap (λ (y : Joined). entry (y .state) 3) (p .meets x joined-fits) ∙ table.joined-clash .3 in
+    let e : _≡_ {A = ℕ} 65535 0 =
+    ap (λ (s : State). entry s 3 .version .place) (sym same) ∙ ap (λ (z : Entry). z .version .place) new in
+    omega arith

@@ -26,10 +26,11 @@ use Rattle.ledger.specs.Commit.{verdicts, passed, commitRows, commitBatch}
 use Rattle.ledger.proofs.Gated.{gate-open}
 use Rattle.ledger.proofs.Commits.{own, verdicts-length}
 use Rattle.planning.specs.Plan.{planBatch}
+use Rattle.planning.specs.Joined.{planAndCommit}
 use Rattle.planning.proofs.Few.{plan-room}
 use Rattle.node.specs.Word.{upper, word, high, low, Told}
-use Rattle.node.specs.Lent.{Arrays, pageLeft, textLeft, writtenLeft, putLeft, commitLeft, planLeft}
-use Rattle.claims.proofs.Refusals.{plan-numbers, commit-numbers, page-numbers, write-numbers}
+use Rattle.node.specs.Lent.{Arrays, pageLeft, textLeft, writtenLeft, putLeft, commitLeft, planLeft, joinedLeft}
+use Rattle.claims.proofs.Refusals.{plan-numbers, commit-numbers, joined-numbers, page-numbers, write-numbers}
 use Rattle.claims.proofs.Texts.{refused-only, refused-unchanged}
 
 -- ---- words
@@ -48,7 +49,7 @@ module _ {A : Type 0} (count : A → ℕ) (o : Outcome A) (w : ℕ)
     counted = λ a e. let g = given a e in halves 0 (count a) w (omega (arith, g .0)) (g .1);
   }
 
--- ---- the six services: a count is as it is, and reading a page or a text and writing a page count 0
+-- ---- the seven services: a count is as it is, and reading a page or a text and writing a page count 0
 
 module _ (batch : List ℕ) (s : State) (n : ℕ) (vs os out : List ℕ) where
   pub plan-word : Told (λ k. k) (planBatch batch s n vs os out .answer) (planLeft (planBatch batch s n vs os out) .word)
@@ -82,6 +83,16 @@ module _ (batch : List ℕ) (s : State) (n : ℕ) (vs : List ℕ) where
       let b = commit-numbers batch s n vs m p e in
       (ap word e, omega (arith, b .0), omega (arith, b .1), omega (arith, b .2)))
       (λ k e. (ap word e, omega (arith, few-pass k e)))
+
+module _ (batch : List ℕ) (s : State) (n : ℕ) (vs os : List ℕ) where
+  pub joined-word : Told (λ k. k) (planAndCommit batch s n vs os .answer) (joinedLeft (planAndCommit batch s n vs os) .word)
+  unfolding planAndCommit
+  joined-word =
+      told (λ k. k) (planAndCommit batch s n vs os .answer) _
+      (λ m p e.
+      let b = joined-numbers batch s n vs os m p e in
+      (ap word e, omega (arith, b .0), omega (arith, b .1), omega (arith, b .2)))
+      (λ k e. (ap word e, omega (arith, plan-room batch s n vs os _ k e .0)))
 
 module _ (batch : List ℕ) (index : ℕ) (t : Transaction) where
   pub write-page-word : Told (λ k. k) (writePage batch index t .answer) (putLeft (writePage batch index t) .word)

@@ -3,6 +3,7 @@ pub mod Demand3
 pub mod Each
 pub mod Empty
 pub mod Halves
+pub mod Joined
 pub mod Letter
 pub mod Opened
 pub mod Pages

@@ -25,6 +25,9 @@ use Rattle.ledger.specs.Byte.{PageByte, WriteByte, BatchByte}
 use Rattle.ledger.proofs.Gated.{whole, sized}
 use Rattle.ledger.proofs.Byte.{page-shown, write-shown, pages-shown}
 use Rattle.planning.specs.Plan.{planRows, planBatch}
+use Rattle.planning.specs.Joined.{planAndCommit}
+use Rattle.planning.proofs.Joined.{joined-answer}
+use Rattle.claims.specs.Joined.{joinedRows}
 
 -- ---- the services on batches
 
@@ -52,6 +55,17 @@ module _ (batch : List ℕ) (s : State) (n : ℕ) (vs : List ℕ) where
   pub commit-unchanged : (m p : ℕ) → commitBatch batch s n vs .answer ≡ refuses m p → (commitBatch batch s n vs .state ≡ s) × (commitBatch batch s n vs .verdicts ≡ vs)
   unfolding commitBatch
   commit-unchanged m p e = let f = first (commitRows batch s n vs) in (refused-after f _ _ s m p e, refused-after f _ _ vs m p e)
+
+module _ (batch : List ℕ) (s : State) (n : ℕ) (vs os : List ℕ) where
+  -- the joined call: "order and numbers as for plan, without the out batch in 14"
+  pub joined-refused : (m p : ℕ) → (planAndCommit batch s n vs os .answer ≡ refuses m p) ↔ Given m p (joinedRows batch s n vs os)
+  joined-refused m p = rw (joined-answer batch s n vs os) (judged-given (joinedRows batch s n vs os) _ m p)
+
+  pub joined-unchanged :
+      (m p : ℕ) → planAndCommit batch s n vs os .answer ≡ refuses m p →
+      (planAndCommit batch s n vs os .state ≡ s) × (planAndCommit batch s n vs os .verdicts ≡ vs) × (planAndCommit batch s n vs os .order ≡ os)
+  unfolding planAndCommit
+  joined-unchanged m p e = let u = plan-unchanged batch s n vs os _ m p e in (rw e, u .0, u .1)
 
 -- ---- the services on pages
 
@@ -121,7 +135,7 @@ inBatch n p = fromTo 11 16 n && ltb p 1024
 below : (j : ℕ) → j < 1024 → T (ltb j 1024)
 below j h = of-true (ltb j 1024) (lt-ltb j 1024 h)
 
--- what a refusal of plan or commit is
+-- what a refusal of plan, commit or the joined call is
 abbrev Refusal : List ℕ → ℕ → ℕ → Type 0
 Refusal batch m p = (2 ≤ m) × (m ≤ 16) × (p < 32768) × (m ≤ 10 → BatchByte batch m p)
 
@@ -207,6 +221,16 @@ module _ (batch : List ℕ) (s : State) (n : ℕ) (vs : List ℕ) (m p : ℕ) (e
 
   pub commit-byte : m ≤ 10 → BatchByte batch m p
   commit-byte = commit-refusal .3
+
+module _ (batch : List ℕ) (s : State) (n : ℕ) (vs os : List ℕ) (m p : ℕ) (e : planAndCommit batch s n vs os .answer ≡ refuses m p) where
+  joined-refusal : Refusal batch m p
+  joined-refusal = gate-given _ batch s n m p (first-given m p (joinedRows batch s n vs os) .1 (joined-refused batch s n vs os m p .0 e))
+
+  pub joined-numbers : (2 ≤ m) × (m ≤ 16) × (p < 32768)
+  joined-numbers = (joined-refusal .0, joined-refusal .1, joined-refusal .2)
+
+  pub joined-byte : m ≤ 10 → BatchByte batch m p
+  joined-byte = joined-refusal .3
 
 -- ---- "Show me the byte": what the place of a page's refusal shows
 

@@ -2,33 +2,33 @@
 use Prim.Native.Nat.{ℕ, suc, _+_, _<_}
 use native.Mathlib.Nat.{add-zero, add-suc, suc-add}
 use native.Mathlib.Omega.{arith}
-use mathlib.Core.Bool.{Bool, true, false, not, cond}
+use mathlib.Core.Bool.{Bool, false, not, cond}
 use mathlib.Core.List.{List, [], _∷_, _++_, map, List·Memᴰ·head, List·Memᴰ·tail}
 use mathlib.Core.Logic.{⊎-elim}
 use mathlib.Core.Path.{_≡_, refl, sym, ap, ap₂, _∙_}
 use lib.ListN.{length, replicate}
-use lib.Seq.{getD-set-same, getD-set-other}
+use lib.Seq.{getD-set-same}
 use lib.IntN.{pos}
-use lib.Dec.{T, T-not, not-T, ltb, ltb→lt}
-use Rattle.lists.specs.Members.{_∈_, any, all, distinct}
-use Rattle.lists.proofs.Tests.{and-left, and-right, is-true, clash, decide, differ}
-use Rattle.lists.proofs.Membership.{any-in, all-out, in-at, all-same, map-same, apart, rest}
+use lib.Dec.{T, ltb, ltb→lt}
+use Rattle.lists.specs.Members.{_∈_, any, distinct}
+use Rattle.lists.proofs.Tests.{is-true, clash, decide}
+use Rattle.lists.proofs.Membership.{any-in, in-at, map-same}
 use Rattle.orders.specs.Chain.{ordered}
 use Rattle.ledger.specs.declared.Write.{Write}
-use Rattle.ledger.specs.Version.{same}
 use Rattle.ledger.specs.Tx.{Tx, keysRead, writer, noWrite, writeOf}
 use Rattle.ledger.specs.declared.Entry.{Entry}
 use Rattle.ledger.specs.declared.Stamp.{Stamp}
 use Rattle.ledger.specs.State.{State, keys, versions, entry, store}
 use Rattle.ledger.specs.Gate.{beyond}
-use Rattle.ledger.specs.Commit.{names, passes, stamp, left, write, afterPage, commit, verdicts}
-use Rattle.ledger.specs.Inner.{Level}
+use Rattle.ledger.specs.Commit.{passes, stamp, left, write, commit, verdicts}
+use Rattle.ledger.specs.Inner.{Level, applied}
 use Rattle.ledger.proofs.Commits.{kept-level, store-kept, write-kept}
 use Rattle.ledger.proofs.Faults.{or-none}
 use Rattle.ledger.proofs.Rising.{Rising}
 use Rattle.planning.specs.Plan.{before}
 use Rattle.claims.specs.Serial.{seen, Rules, run, made}
-use Rattle.planning.proofs.Words.{reads-key, read-in, no-write, before-words}
+use Rattle.planning.proofs.Words.{no-write}
+use Rattle.planning.proofs.Passing.{write-other, Agree, Passing, passing, passing-next, now-passes, after-writes, commit-applied}
 
 -- ---- what stands at a key after a write
 
@@ -41,25 +41,6 @@ entry-same s k e z h = λ i. record {
   };
   value = getD-set-same (s .values) k (e .value) (pos 0) (omega (arith, z .values)) i;
 }
-
-entry-other : (s : State) (j k : ℕ) (e : Entry) → (k ≡ j → ⊥) → entry (store s j e) k ≡ entry s k
-unfolding entry store
-entry-other s j k e h = λ i. record {
-  version = record {
-    block = getD-set-other (s .blocks) j k (e .version .block) 0 h i;
-    place = getD-set-other (s .places) j k (e .version .place) 0 h i;
-  };
-  value = getD-set-other (s .values) j k (e .value) (pos 0) h i;
-}
-
-write-other :
-    (st : Stamp) (s : State) (ws : List Write) (k : ℕ) → ((w : Write) → w ∈ ws → w .key ≡ k → ⊥) →
-    entry (write st s ws) k ≡ entry s k
-unfolding write
-write-other st s [] k f = refl
-write-other st s (w ∷ ws) k f =
-    write-other st (store s (w .key) (left st w)) ws k (λ v m. f v (List·Memᴰ·tail m))
-    ∙ entry-other s (w .key) k (left st w) (λ e. f w (List·Memᴰ·head refl) (sym e))
 
 -- the keys of these writes rise
 abbrev Rise : List Write → Type 0
@@ -94,23 +75,11 @@ key-below k x e {w} m =
     (λ t. absurd (clash (sym (is-true _ (any-in (λ v. not (ltb (v .key) k)) (x .writes) m t)) ∙ f .1)))
     (decide (ltb (w .key) k))
 
--- ---- two states that agree on what a transaction reads are one to it
-
--- one entry at each key that x reads
-abbrev pub Agree : State → State → Tx → Type 0
-Agree s t x = (k : ℕ) → k ∈ keysRead x → entry s k ≡ entry t k
-
-agree-self : (s : State) (x : Tx) → Agree s s x
-agree-self s x k m = refl
+-- ---- a transaction sees the same where it reads the same
 
 agree-seen : (s t : State) (x : Tx) → Agree s t x → seen s x ≡ seen t x
 unfolding seen
 agree-seen s t x h = map-same (entry s) (entry t) (keysRead x) h
-
-agree-passes : (s t : State) (x : Tx) → Agree s t x → passes (versions s) x ≡ passes (versions t) x
-unfolding passes entry
-agree-passes s t x h =
-    all-same (names (versions s)) (names (versions t)) (x .reads) (λ r m. ap (λ e. same (r .version) (e .version)) (h (r .key) (read-in x m)))
 
 -- ---- those that are still to run
 
@@ -119,48 +88,22 @@ abbrev pub onPages : (ℕ → Tx) → Rules
 onPages b i es = b i .writes
 
 module _ (b : ℕ → Tx) where
-  -- in a forward order a later one reads nothing that an earlier one writes
-  unread :
-      (i : ℕ) (os : List ℕ) → T (ordered (before b) (i ∷ os)) → T (distinct (i ∷ os)) →
-      (u : ℕ) → u ∈ os → (k : ℕ) → k ∈ keysRead (b u) → T (not (writer (b i) k))
-  unfolding ordered
-  unread i os f d u m k q =
-      not-T (writer (b i) k)
-      (λ w. T-not (before b u i)
-      (all-out (λ a. not (before b a i)) os (and-left (all (λ a. not (before b a i)) os) _ f) m)
-      (before-words b u i .1 (λ e. differ i u (apart i os d m) (sym e), (k, w, reads-key (b u) k .1 q))))
-
-  -- what holds of os, still to run, at the state s: each of them sees what it saw at the start
+  -- what holds of os, still to run, at the state s: each of them sees what it saw at the start, where its rule makes its writes
   pub record Waiting (start : State) (rule : Rules) (s : State) (os : List ℕ) : Type 0 where
-    pub forward : T (ordered (before b) os)
-    pub once : T (distinct os)
+    pub passing : Passing b start s os
     pub fixed : (i : ℕ) → i ∈ os → rule i (seen start (b i)) ≡ b i .writes
-    pub current : (i : ℕ) → i ∈ os → T (passes (versions start) (b i))
-    pub agree : (i : ℕ) → i ∈ os → Agree s start (b i)
 
   pub waiting :
       (s : State) (rule : Rules) (os : List ℕ) → T (ordered (before b) os) → T (distinct os) →
       ((i : ℕ) → i ∈ os → rule i (seen s (b i)) ≡ b i .writes) → ((i : ℕ) → i ∈ os → T (passes (versions s) (b i))) → Waiting s rule s os
-  waiting s rule os f d g h = record { forward = f; once = d; fixed = g; current = h; agree = λ i m. agree-self s (b i) }
+  waiting s rule os f d g h = record { passing = passing b s os f d h; fixed = g }
 
   module _ (n : ℕ) (start : State) (rule : Rules) where
     next : (p : ℕ) (s : State) (i : ℕ) (os : List ℕ) → Waiting start rule s (i ∷ os) → Waiting start rule (write (stamp n p) s (b i .writes)) os
-    unfolding ordered
-    next p s i os z = record {
-      forward = and-right (all (λ a. not (before b a i)) os) _ (z .forward);
-      once = rest i os (z .once);
-      fixed = λ u m. z .fixed u (List·Memᴰ·tail m);
-      current = λ u m. z .current u (List·Memᴰ·tail m);
-      agree = λ u m k q.
-          write-other (stamp n p) s (b i .writes) k (no-write (b i) k (unread i os (z .forward) (z .once) u m k q))
-          ∙ z .agree u (List·Memᴰ·tail m) k q;
-    }
+    next p s i os z = record { passing = passing-next b n start p s i os (z .passing); fixed = λ u m. z .fixed u (List·Memᴰ·tail m) }
 
     makes : (s : State) (i : ℕ) (os : List ℕ) → Waiting start rule s (i ∷ os) → rule i (seen s (b i)) ≡ b i .writes
-    makes s i os z = ap (rule i) (agree-seen s start (b i) (z .agree i (List·Memᴰ·head refl))) ∙ z .fixed i (List·Memᴰ·head refl)
-
-    now-passes : (s : State) (i : ℕ) (os : List ℕ) → Waiting start rule s (i ∷ os) → passes (versions s) (b i) ≡ true
-    now-passes s i os z = agree-passes s start (b i) (z .agree i (List·Memᴰ·head refl)) ∙ is-true _ (z .current i (List·Memᴰ·head refl))
+    makes s i os z = ap (rule i) (agree-seen s start (b i) (z .passing .agree i (List·Memᴰ·head refl))) ∙ z .fixed i (List·Memᴰ·head refl)
 
     -- "Each rule then makes the writes on its page"
     pub made-pages : (p : ℕ) (s : State) (os : List ℕ) → Waiting start rule s os → made b n p rule s os ≡ map (λ i. b i .writes) os
@@ -173,26 +116,22 @@ module _ (b : ℕ → Tx) where
     run-pages p s [] z = refl
     run-pages p s (i ∷ os) z = rw (makes s i os z) (run-pages (suc p) (write (stamp n p) s (b i .writes)) os (next p s i os z))
 
-    after-writes : (p : ℕ) (s : State) (i : ℕ) (os : List ℕ) → Waiting start rule s (i ∷ os) → afterPage n p s (b i) ≡ write (stamp n p) s (b i .writes)
-    unfolding afterPage
-    after-writes p s i os z = rw (now-passes s i os z)
-
-    commit-pages : (p : ℕ) (s : State) (os : List ℕ) → Waiting start rule s os → commit n p s (map b os) ≡ run b n p (onPages b) s os
-    unfolding commit run
-    commit-pages p s [] z = refl
-    commit-pages p s (i ∷ os) z =
-        ap (λ x. commit n (suc p) x (map b os)) (after-writes p s i os z) ∙ commit-pages (suc p) (write (stamp n p) s (b i .writes)) os (next p s i os z)
+    run-applied : (p : ℕ) (s : State) (os : List ℕ) → applied n p s (map b os) ≡ run b n p (onPages b) s os
+    unfolding applied run
+    run-applied p s [] = refl
+    run-applied p s (i ∷ os) = run-applied (suc p) (write (stamp n p) s (b i .writes)) os
 
     -- "the state and its versions are those of our commit"
     pub commit-runs : (p : ℕ) (s : State) (os : List ℕ) → Waiting start rule s os → commit n p s (map b os) ≡ run b n p rule s os
-    commit-runs p s os z = commit-pages p s os z ∙ sym (run-pages p s os z)
+    commit-runs p s os z = commit-applied b n start p s os (z .passing) ∙ run-applied p s os ∙ sym (run-pages p s os z)
 
     -- "which fails none of them"
     pub fails-none : (p : ℕ) (s : State) (os : List ℕ) → Waiting start rule s os → verdicts n p s (map b os) ≡ replicate (length os) 0
     unfolding verdicts
     fails-none p s [] z = refl
     fails-none p s (i ∷ os) z =
-        ap₂ (λ (t : Bool) (x : State). cond t 0 3 ∷ verdicts n (suc p) x (map b os)) (now-passes s i os z) (after-writes p s i os z)
+        ap₂ (λ (t : Bool) (x : State). cond t 0 3 ∷ verdicts n (suc p) x (map b os))
+        (now-passes b n start s i os (z .passing)) (after-writes b n start p s i os (z .passing))
         ∙ ap (λ l. 0 ∷ l) (fails-none (suc p) (write (stamp n p) s (b i .writes)) os (next p s i os z))
 
   -- ---- where a key ends

@@ -11,23 +11,25 @@ use Rattle.refusals.specs.Outcome.{gives, refuses}
 use Rattle.refusals.specs.Fault.{Fault, clear, fault, after}
 use Rattle.refusals.specs.Fault.{first as rowsFirst}
 use Rattle.ledger.specs.State.{State, keys, versions, wrongLengths}
-use Rattle.ledger.specs.Gate.{pages, txAt, txs}
+use Rattle.ledger.specs.Gate.{pages, txAt, txs, frontRows}
 use Rattle.ledger.specs.Commit.{commit, Commits, commitRows, commitBatch}
 use Rattle.ledger.specs.Inner.{Level}
 use Rattle.lists.proofs.Tables.{length-tab}
-use Rattle.ledger.proofs.Gated.{Through, gate-open}
+use Rattle.ledger.proofs.Gated.{Through, front-whole, open-front, gate-open}
 use Rattle.ledger.proofs.Commits.{Kept, kept-self, commit-kept}
 use Rattle.planning.specs.Plan.{Plans, sequence, plans, planRows, planBatch}
 use Rattle.planning.proofs.Few.{plan-room}
 use Rattle.report.specs.Listing.{listing, refusal, together, listed, refused}
-use Rattle.report.specs.Program.{startNumber, start, plan, stateAfter, shown, told}
+use Rattle.report.specs.Program.{startNumber, start, done, shown, told}
 use Rattle.report.specs.declared.program.Input.the-variants.{Bytes, TooLong, Unread}
 use Rattle.claims.specs.Serial.{run}
-use Rattle.claims.specs.Shown.{Whole}
+use Rattle.claims.specs.Shown.{plan, stateAfter, Whole}
 use Rattle.refusals.proofs.Answers.{value}
 use Rattle.planning.proofs.Opened.{own, plan-open, plan-clear}
 use Rattle.claims.proofs.Running.{onPages}
+use Rattle.planning.proofs.Joined.{same-answer}
 use Rattle.planning.proofs.Kept.{sequence-perm}
+use Rattle.claims.proofs.Joined.{two-calls}
 use Rattle.claims.proofs.Demand3.{third}
 
 -- ---- a commit leaves lists as long as they were
@@ -128,16 +130,41 @@ module _ (text input : List ℕ) (s : State) (vs os out ps : List ℕ) (room : 6
 pub long : (n a : ℕ) → n ≤ length (replicate n a)
 long n a = rw (length-replicate n a) (omega arith)
 
--- what is written, by plan's answer
-shown-gives : (text input : List ℕ) (s : State) (k : ℕ) → plan input s .answer ≡ gives k
-    → shown input s text ≡ listed text startNumber input (plan input s .verdicts) (plan input s .order) k (stateAfter input s k)
-unfolding shown
-shown-gives text input s k e = rw (e, shown)
+-- an out batch for 64 pages is long enough for an input that is not too long
+enough : (input : List ℕ) → rowsFirst (frontRows input start startNumber) ≡ clear → 512 * pages input ≤ length {A = ℕ} (replicate 32768 0)
+enough input e = omega (arith, front-whole input start startNumber e, length-replicate {A = ℕ} 32768 0)
 
-shown-refuses : (text input : List ℕ) (s : State) (number place : ℕ) → plan input s .answer ≡ refuses number place
+-- what is written, by the joined call's answer
+shown-done : (text input : List ℕ) (s : State) (k : ℕ) → done input s .answer ≡ gives k
+    → shown input s text ≡ listed text startNumber input (done input s .verdicts) (done input s .order) k (done input s .state)
+unfolding shown
+shown-done text input s k e = rw (e, shown)
+
+shown-not : (text input : List ℕ) (s : State) (number place : ℕ) → done input s .answer ≡ refuses number place
     → shown input s text ≡ refused text number place
 unfolding shown
-shown-refuses text input s number place e = rw (e, shown)
+shown-not text input s number place e = rw (e, shown)
+
+-- and by plan's: the joined call is the two calls
+shown-gives : (text input : List ℕ) (k : ℕ) → plan input .answer ≡ gives k
+    → shown input start text ≡ listed text startNumber input (plan input .verdicts) (plan input .order) k (stateAfter input k)
+unfolding done
+shown-gives text input k e =
+    let vs : List ℕ = replicate 64 0 in
+    let few = plan-room input start startNumber vs vs (replicate 32768 0) k e in
+    let front = open-front (own input start startNumber vs vs (replicate 32768 0)) input start startNumber (plan-clear input start startNumber vs vs (replicate 32768 0) e .0) in
+    let same = two-calls input start startNumber vs vs (replicate 32768 0) (enough input front) in
+    shown-done text input start k (same .answer-is ∙ e)
+    ∙ ap (λ l. listed text startNumber input l (done input start .order) k (done input start .state)) (same .verdicts-are)
+    ∙ ap (λ l. listed text startNumber input (plan input .verdicts) l k (done input start .state)) (same .order-is)
+    ∙ ap (listed text startNumber input (plan input .verdicts) (plan input .order) k)
+    (same .commits k e vs (omega (arith, few .0, length-replicate {A = ℕ} 64 0)) .1)
+
+shown-refuses : (text input : List ℕ) (number place : ℕ) → plan input .answer ≡ refuses number place
+    → shown input start text ≡ refused text number place
+unfolding done
+shown-refuses text input number place e =
+    shown-not text input start number place (same-answer input start startNumber (replicate 64 0) (replicate 64 0) (replicate 32768 0) (enough input) ∙ e)
 
 -- the line of a refusal has room
 line : (text : List ℕ) (number place : ℕ) → 65536 ≤ length text → refused text number place ≡ refusal number place
@@ -146,11 +173,10 @@ line text number place h = rw (le-leb 64 (length text) (omega arith))
 
 -- For every input the whole listing is written, or the refusal's line: nothing is ever left out or cut.
 pub shown-all : (input : List ℕ) → Whole input (shown input start (replicate 65536 0))
-unfolding plan stateAfter
 shown-all input = (
-  λ k e. shown-gives (replicate 65536 0) input start k e
+  λ k e. shown-gives (replicate 65536 0) input k e
       ∙ whole (replicate 65536 0) input start (replicate 64 0) (replicate 64 0) (replicate 32768 0) (replicate 64 0) (long 65536 0) k e,
-  λ number place e. shown-refuses (replicate 65536 0) input start number place e ∙ line (replicate 65536 0) number place (long 65536 0),
+  λ number place e. shown-refuses (replicate 65536 0) input number place e ∙ line (replicate 65536 0) number place (long 65536 0),
 )
 
 -- And for whatever is read: the bytes are listed or refused so, "input beyond 32768 bytes gives 11", a read that failed gives nothing.
@@ -171,9 +197,8 @@ pub shown-run :
     shown input start (replicate 65536 0)
     ≡ listing startNumber input (clearPlan input .verdicts) (clearPlan input .order) k
     (run (txAt input) startNumber 0 (onPages (txAt input)) start (take k (clearPlan input .order)))
-unfolding plan stateAfter
 shown-run input k c a h =
     let text : List ℕ = replicate 65536 0 in
-    shown-gives text input start k (plan-gives text input start (replicate 64 0) (replicate 64 0) (replicate 32768 0) (replicate 64 0) (long 65536 0) k c a)
+    shown-gives text input k (plan-gives text input start (replicate 64 0) (replicate 64 0) (replicate 32768 0) (replicate 64 0) (long 65536 0) k c a)
     ∙ whole-run text input start (replicate 64 0) (replicate 64 0) (replicate 32768 0) (replicate 64 0) (long 65536 0) k c a
     (rw (length-replicate {A = ℕ} 64 0) h)

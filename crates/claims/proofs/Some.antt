@@ -13,7 +13,8 @@ use Rattle.ledger.specs.declared.PageCheck.the-variants.{Good, Bad}
 use Rattle.ledger.specs.Services.{Counts, checked, readPage, writePage}
 use Rattle.ledger.specs.Commit.{commitBatch}
 use Rattle.planning.specs.Plan.{planBatch}
-use Rattle.claims.specs.Programs.{PageReader, PageWriter, Planner, Committer, TextReader, TextWriter}
+use Rattle.planning.specs.Joined.{planAndCommit}
+use Rattle.claims.specs.Programs.{PageReader, PageWriter, Planner, Committer, JoinedCall, TextReader, TextWriter}
 
 -- an answer for each outcome
 abbrev answer : Outcome ℕ → Answer
@@ -40,7 +41,7 @@ reads : (o : Outcome ℤ) → read (reading o) ≡ o
 reads (gives z) = refl
 reads (refuses n p) = refl
 
--- the six
+-- the seven
 
 pub page-reader : PageReader
 page-reader = record {
@@ -79,6 +80,17 @@ committer = record {
   meets = λ x t.
       let c = commitBatch (x .batch) (x .state) (x .number) (x .verdicts) in
       ap (λ (o : Outcome ℕ). record { answer = o; state = c .state; verdicts = c .verdicts }) (answered (c .answer));
+}
+
+pub joined-call : JoinedCall
+joined-call = record {
+  does = λ x.
+      let j = planAndCommit (x .batch) (x .state) (x .number) (x .verdicts) (x .order) in
+      record { answer = answer (j .answer); state = j .state; verdicts = j .verdicts; order = j .order };
+  meets = λ x t.
+      let j = planAndCommit (x .batch) (x .state) (x .number) (x .verdicts) (x .order) in
+      ap (λ (o : Outcome ℕ). record { answer = o; state = j .state; verdicts = j .verdicts; order = j .order })
+      (answered (j .answer));
 }
 
 pub text-reader : TextReader

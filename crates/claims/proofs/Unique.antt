@@ -15,6 +15,7 @@ use Rattle.ledger.specs.Services.{Counts, checked, checkPage, Taken, taken, rea
 use Rattle.ledger.specs.State.{State}
 use Rattle.ledger.specs.Commit.{Commits, committed, commitBatch}
 use Rattle.planning.specs.Plan.{Plans, planned, planBatch}
+use Rattle.planning.specs.Joined.{Joined, joined, planAndCommit}
 use Rattle.tonnage.specs.Services.{read, readText, WrittenText, wrote, writeText}
 
 one-reading : (r q : Reading) → read r ≡ read q → r ≡ q
@@ -89,4 +90,17 @@ plan-batch batch s n v o w x y vs ws os qs b c h k =
       ap (λ (p : Plans). p .verdicts) e,
       ap (λ (p : Plans). p .order) e,
       ap (λ (p : Plans). p .out) e,
+    )
+
+-- planning and committing it at once: the answer, the three lists, the verdicts and the order list
+pub plan-and-commit :
+    (batch : List ℕ) (s : State) (n : ℕ) (v o : List ℕ) (x y : Answer) (t u : State) (vs ws os qs : List ℕ) →
+    joined x t vs os ≡ planAndCommit batch s n v o → joined y u ws qs ≡ planAndCommit batch s n v o →
+    (x ≡ y) × (t ≡ u) × (vs ≡ ws) × (os ≡ qs)
+plan-and-commit batch s n v o x y t u vs ws os qs h k =
+    let e = h ∙ sym k in (
+      one-answer x y (ap (λ (j : Joined). j .answer) e),
+      ap (λ (j : Joined). j .state) e,
+      ap (λ (j : Joined). j .verdicts) e,
+      ap (λ (j : Joined). j .order) e,
     )

@@ -18,6 +18,7 @@ use Rattle.ledger.specs.declared.Entry.{Entry}
 use Rattle.ledger.specs.State.{State, stateOf, entry}
 use Rattle.ledger.specs.Commit.{Commits, commitBatch}
 use Rattle.planning.specs.Plan.{Plans, planBatch}
+use Rattle.planning.specs.Joined.{Joined, planAndCommit}
 use Rattle.ledger.specs.Services.{readPage, writePage}
 use Rattle.lists.specs.Ascii.{ascii}
 
@@ -33,6 +34,8 @@ pub data Case : Type 0 where
   plan : List Tx → (count : ℕ) → (verdicts order : List ℕ) → Case
   -- and what stands at a key once the out batch is committed
   settled : List Tx → (key : ℕ) → Entry → Case
+  -- the kept count, the verdicts and the order of the joined call on them, and what then stands at a key
+  joined : List Tx → (count : ℕ) → (verdicts order : List ℕ) → (key : ℕ) → Entry → Case
   -- the passing count and the verdicts of a commit of them, and what then stands at a key
   commit : List Tx → (count : ℕ) → (verdicts : List ℕ) → (key : ℕ) → Entry → Case
 
@@ -55,6 +58,10 @@ planOf xs = planBatch (batchOf xs) fresh number (replicate 2 9) (replicate 2 9) 
 abbrev pub commitOf : List Tx → Commits
 commitOf xs = commitBatch (batchOf xs) fresh number (replicate 2 9)
 
+-- what the joined call leaves
+abbrev pub joinedOf : List Tx → Joined
+joinedOf xs = planAndCommit (batchOf xs) fresh number (replicate 2 9) (replicate 2 9)
+
 -- what a case says
 abbrev pub Holds : Case → Type 0
 Holds (text t o) = readText (ascii t) ≡ o
@@ -63,6 +70,9 @@ Holds (page t b) =
     × (readPage b ≡ record { answer = gives (record { reads = t .r; writes = t .w }); transaction = t })
 Holds (plan xs k vs os) = (planOf xs .answer ≡ gives k) × (planOf xs .verdicts ≡ vs) × (planOf xs .order ≡ os)
 Holds (settled xs k e) = entry (commitBatch (planOf xs .out) fresh number (replicate 2 9) .state) k ≡ e
+Holds (joined xs c vs os k e) =
+    (joinedOf xs .answer ≡ gives c) × (joinedOf xs .verdicts ≡ vs) × (joinedOf xs .order ≡ os)
+    × (entry (joinedOf xs .state) k ≡ e)
 Holds (commit xs c vs k e) =
     (commitOf xs .answer ≡ gives c) × (commitOf xs .verdicts ≡ vs) × (entry (commitOf xs .state) k ≡ e)
 Holds (written t o) = writePage (replicate 512 0) 0 t .answer ≡ o
@@ -141,4 +151,12 @@ table =
     plan writers 2 (0 ∷ 0 ∷ []) (1 ∷ 0 ∷ []) ∷
     settled writers 3 (record { version = at number 1; value = pos 5 }) ∷
     commit failing 1 (3 ∷ 0 ∷ []) 4 (record { version = at number 1; value = pos 9 }) ∷
+    []
+
+-- two of the cases of planning once more, by the joined call: each write has the place of its page in the order, and a page of
+-- a cycle writes nothing
+abbrev pub joinedTable : List Case
+joinedTable =
+    joined crossing 1 (2 ∷ 0 ∷ []) (1 ∷ 9 ∷ []) 3 (record { version = at number 0; value = pos 2 }) ∷
+    joined writers 2 (0 ∷ 0 ∷ []) (1 ∷ 0 ∷ []) 3 (record { version = at number 1; value = pos 5 }) ∷
     []

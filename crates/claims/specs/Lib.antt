@@ -1,4 +1,5 @@
 pub mod Cases
+pub mod Joined
 pub mod Letter
 pub mod Programs
 pub mod Serial

@@ -18,6 +18,7 @@ use Rattle.ledger.specs.Services.{taken, readPage, wrotePage, writePage}
 use Rattle.ledger.specs.State.{State}
 use Rattle.ledger.specs.Commit.{committed, commitBatch}
 use Rattle.planning.specs.Plan.{planned, planBatch}
+use Rattle.planning.specs.Joined.{joined, planAndCommit}
 
 -- A program for a service: what it answers and leaves, `does`, for each input. It meets the promise where, on every input
 -- whose numbers are within their types, that is what the promise gives. Nothing else is known of it.
@@ -94,6 +95,19 @@ pub record CommitDone : Type 0 where
   pub state : State
   pub verdicts : List ℕ
 
+pub record JoinedLent : Type 0 where
+  pub batch : List ℕ
+  pub state : State
+  pub number : ℕ
+  pub verdicts : List ℕ
+  pub order : List ℕ
+
+pub record JoinedDone : Type 0 where
+  pub answer : Answer
+  pub state : State
+  pub verdicts : List ℕ
+  pub order : List ℕ
+
 pub record TextLent : Type 0 where
   pub buffer : List ℕ
   pub figure : ℤ
@@ -117,10 +131,19 @@ planFits x =
 abbrev pub commitFits : CommitLent → Bool
 commitFits x = bytes (x .batch) && lentState (x .state) && ltb (x .number) (2 ^ 32) && bytes (x .verdicts)
 
+abbrev pub joinedFits : JoinedLent → Bool
+joinedFits x =
+    bytes (x .batch)
+    && lentState (x .state)
+    && ltb (x .number) (2 ^ 32)
+    && bytes (x .verdicts)
+    && bytes (x .order)
+
 abbrev pub textFits : TextLent → Bool
 textFits x = bytes (x .buffer) && in64 (x .figure)
 
--- ---- the programs: "read a page, write a page, plan a batch, commit a batch, read a tonnage text, write a tonnage text"
+-- ---- the programs: "read a page, write a page, plan a batch, commit a batch, read a tonnage text, write a tonnage text", and
+-- document 02's "One service shall plan and commit"
 
 abbrev pub PageReader : Type 0
 PageReader = Program {Out = PageRead} bytes taken readPage
@@ -142,6 +165,12 @@ Committer =
     Program {Out = CommitDone} commitFits
     (λ y. committed (y .answer) (y .state) (y .verdicts))
     (λ x. commitBatch (x .batch) (x .state) (x .number) (x .verdicts))
+
+abbrev pub JoinedCall : Type 0
+JoinedCall =
+    Program {Out = JoinedDone} joinedFits
+    (λ y. joined (y .answer) (y .state) (y .verdicts) (y .order))
+    (λ x. planAndCommit (x .batch) (x .state) (x .number) (x .verdicts) (x .order))
 
 abbrev pub TextReader : Type 0
 TextReader = Program {Out = Reading} bytes read readText

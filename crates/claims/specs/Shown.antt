@@ -1,22 +1,34 @@
 -- Document 01, 'The listing': when a text is whole; and two inputs with their listings. Assumes nothing.
-use Prim.Native.Nat.{ℕ}
+use Prim.Native.Nat.{ℕ, _*_}
 use mathlib.Core.Path.{_≡_}
 use mathlib.Core.List.{List, [], _∷_}
+use lib.ListN.{take, replicate}
 use lib.IntN.{negsuc}
 use Rattle.refusals.specs.Outcome.{gives, refuses}
 use Rattle.lists.specs.Ascii.{ascii}
 use Rattle.ledger.specs.Version.{at}
+use Rattle.ledger.specs.State.{State}
+use Rattle.ledger.specs.Commit.{commitBatch}
+use Rattle.planning.specs.Plan.{Plans, planBatch}
 use Rattle.ledger.specs.Tx.{Tx}
 use Rattle.report.specs.Listing.{listing, refusal}
-use Rattle.report.specs.Program.{startNumber, start, plan, stateAfter}
+use Rattle.report.specs.Program.{startNumber, start}
 use Rattle.claims.specs.Cases.{tx, absentRead, put}
 
--- a text for an input is the whole listing, or the refusal's line
+-- document 01's "plans": what plan leaves, with lists and an out batch for 64 pages
+abbrev pub plan : List ℕ → Plans
+plan input = planBatch input start startNumber (replicate 64 0) (replicate 64 0) (replicate 32768 0)
+
+-- "commits the out batch": the state after its first k pages
+abbrev pub stateAfter : List ℕ → ℕ → State
+stateAfter input k = commitBatch (take (512 * k) (plan input .out)) start startNumber (replicate 64 0) .state
+
+-- a text for an input is the whole listing of what the two calls leave, or the refusal's line
 abbrev pub Whole : List ℕ → List ℕ → Type 0
 Whole input text =
-    ((k : ℕ) → plan input start .answer ≡ gives k →
-    text ≡ listing startNumber input (plan input start .verdicts) (plan input start .order) k (stateAfter input start k))
-    × ((number place : ℕ) → plan input start .answer ≡ refuses number place → text ≡ refusal number place)
+    ((k : ℕ) → plan input .answer ≡ gives k →
+    text ≡ listing startNumber input (plan input .verdicts) (plan input .order) k (stateAfter input k))
+    × ((number place : ℕ) → plan input .answer ≡ refuses number place → text ≡ refusal number place)
 
 -- "Five pages: ticket 10 puts 68400 on 5; 20 reads 5 absent, puts 100 on 6; 30 reads 6 absent, puts -50 on 7; 40 reads 7 absent, puts 1 on 5;
 -- 50 reads 8 as block 0 place 0."

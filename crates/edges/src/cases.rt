@@ -2,7 +2,8 @@
 // is asked with (n, the page index or the kilograms); what must be given: count, figure, number, place; the lengths of the
 // lists; where the sentence, the bytes that are lent to be read and the state's three lists end. Then the transaction that is
 // lent and the one that must be given, the sentence, those bytes, the state, and last what must be left in each list that is
-// lent for writing: the buffer of a page or a text; verdicts, order and out batch of a plan; verdicts and state of a commit.
+// lent for writing: the buffer of a page or a text; verdicts, order and out batch of a plan; verdicts and state of a commit;
+// verdicts, order and state of the joined call.
 use crate::given::Given;
 use crate::numbers;
 ghost use Prim.Native.Nat.{_≤_};

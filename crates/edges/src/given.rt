@@ -1,4 +1,4 @@
-// What each service gives, in one form for all six.
+// What each service gives, in one form for all seven.
 use ledger::PageCheck;
 use refusals::Answer;
 use refusals::Refusal;

@@ -98,3 +98,21 @@ pub fn same_values(case: &[u8], at: usize, list: &[i64], count: usize) -> usize
     }
     next
 }
+
+// The same for the three lists of a state.
+pub fn same_state(
+    case: &[u8],
+    at: usize,
+    blocks: &[u32],
+    places: &[u16],
+    values: &[i64],
+    b: usize,
+    p: usize,
+    w: usize,
+) -> usize
+    requires { ⌜ (b ≤ length (now blocks)) × (p ≤ length (now places)) × (w ≤ length (now values)) ⌝ }
+{
+    let next = same_blocks(case, at, blocks, b);
+    let next = same_places(case, next, places, p);
+    same_values(case, next, values, w)
+}

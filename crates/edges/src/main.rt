@@ -1,4 +1,4 @@
-// Runs the cases that tools/edges.py writes on the six services. A line for each service says how many came out right; a line
+// Runs the cases that tools/edges.py writes on the seven services. A line for each service says how many came out right; a line
 // before it names the first that did not, and one behind it says so where the input is not whole.
 mod cases;
 mod given;
@@ -18,7 +18,7 @@ const SIZE: usize = 4;
 // The most bytes of a case, and of the input.
 const MOST: usize = 81920;
 
-const MOST_INPUT: usize = 524288;
+const MOST_INPUT: usize = 786432;
 
 // One more.
 fn more(count: u64) -> u64 {
@@ -84,7 +84,7 @@ fn run_service(input: &[u8], from: usize, service: u8, name: &[u8]) -> usize
     input.len()
 }
 
-// Runs the cases of all six services.
+// Runs the cases of all seven services.
 fn run_all(input: &[u8]) {
     let at = run_service(input, 0, services::READ_PAGE, b"read page: ");
     let at = run_service(input, at, services::WRITE_PAGE, b"write page: ");
@@ -92,6 +92,7 @@ fn run_all(input: &[u8]) {
     let at = run_service(input, at, services::COMMIT, b"commit: ");
     let at = run_service(input, at, services::READ_TONNAGE, b"read tonnage: ");
     let at = run_service(input, at, services::WRITE_TONNAGE, b"write tonnage: ");
+    let at = run_service(input, at, services::PLAN_AND_COMMIT, b"plan and commit: ");
     if at != input.len() {
         write(b"the input does not end there\n");
     }

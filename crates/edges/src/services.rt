@@ -1,11 +1,11 @@
-// The six services, each run on what a case lends: right where what it gives and every element that it leaves are due.
+// The seven services, each run on what a case lends: right where what it gives and every element that it leaves are due.
 use crate::cases;
 use crate::given;
 use crate::lists;
 use crate::numbers;
 use crate::transactions;
 
-// The services by their numbers, in document 01's order.
+// The services by their numbers, in document 01's order, and last the joined call.
 pub const READ_PAGE: u8 = 0;
 
 pub const WRITE_PAGE: u8 = 1;
@@ -17,6 +17,8 @@ pub const COMMIT: u8 = 3;
 pub const READ_TONNAGE: u8 = 4;
 
 pub const WRITE_TONNAGE: u8 = 5;
+
+pub const PLAN_AND_COMMIT: u8 = 6;
 
 // What a list that is lent to be filled holds before.
 const LENT: u8 = 0xaa;
@@ -93,9 +95,7 @@ fn commit(
         &mut verdicts[..v],
     );
     let at = lists::same_bytes(case, cases::end(case, cases::VALUES_END), verdicts, v);
-    let at = lists::same_blocks(case, at, blocks, b);
-    let at = lists::same_places(case, at, places, p);
-    let at = lists::same_values(case, at, values, w);
+    let at = lists::same_state(case, at, blocks, places, values, b, p, w);
     cases::is_right(case, given::answered(answer), at)
 }
 
@@ -111,6 +111,63 @@ fn write_tonnage(case: &[u8], text: &mut [u8]) -> bool {
     let answer = tonnage::text::write_tonnage(&mut text[..size], kilograms);
     let at = lists::same_bytes(case, cases::end(case, cases::VALUES_END), text, size);
     cases::is_right(case, given::answered(answer), at)
+}
+
+// Plans and commits in lists that have the lengths of the case.
+fn joined(
+    case: &[u8],
+    blocks: &mut [u32],
+    places: &mut [u16],
+    values: &mut [i64],
+    verdicts: &mut [u8],
+    order: &mut [u8],
+) -> bool {
+    let answer = planner::joined::plan_and_commit(
+        cases::bytes(case),
+        blocks,
+        places,
+        values,
+        numbers::four(case, cases::ASKED),
+        verdicts,
+        order,
+    );
+    let at = cases::end(case, cases::VALUES_END);
+    let at = lists::same_bytes(case, at, verdicts, verdicts.len());
+    let at = lists::same_bytes(case, at, order, order.len());
+    let at = lists::same_state(
+        case,
+        at,
+        blocks,
+        places,
+        values,
+        blocks.len(),
+        places.len(),
+        values.len(),
+    );
+    cases::is_right(case, given::answered(answer), at)
+}
+
+fn plan_and_commit(
+    case: &[u8],
+    blocks: &mut [u32],
+    places: &mut [u16],
+    values: &mut [i64],
+    verdicts: &mut [u8],
+    order: &mut [u8],
+) -> bool {
+    let b = cases::length(case, cases::BLOCKS, blocks.len());
+    let p = cases::length(case, cases::PLACES, places.len());
+    let w = cases::length(case, cases::VALUES, values.len());
+    let v = cases::length(case, cases::VERDICTS, verdicts.len());
+    let o = cases::length(case, cases::ORDER, order.len());
+    joined(
+        case,
+        &mut blocks[..b],
+        &mut places[..p],
+        &mut values[..w],
+        &mut verdicts[..v],
+        &mut order[..o],
+    )
 }
 
 // Runs a case of a service, in lists of its own.
@@ -135,6 +192,14 @@ pub fn run(service: u8, case: &[u8]) -> bool {
         ),
         COMMIT => commit(case, &mut blocks, &mut places, &mut values, &mut verdicts),
         READ_TONNAGE => read_tonnage(case),
-        _ => write_tonnage(case, &mut out),
+        WRITE_TONNAGE => write_tonnage(case, &mut out),
+        _ => plan_and_commit(
+            case,
+            &mut blocks,
+            &mut places,
+            &mut values,
+            &mut verdicts,
+            &mut order,
+        ),
     }
 }

@@ -6,7 +6,7 @@ use Prim.Native.Nat.{ℕ, suc, _+_, _≤_, _<_}
 use native.Mathlib.Nat.{add-zero, add-suc, suc-add, zero-add}
 use native.Mathlib.Numerals.{add-one}
 use native.Mathlib.Omega.{arith}
-use lib.ListN.{length, getD, set, take, drop, length-append, length-drop, length-set}
+use lib.ListN.{length, set, take, drop, length-append, length-drop, length-set}
 use lib.Seq.{take-suc, take-all, drop-cons, set-at, append-snoc}
 use lib.Dec.{eqb, ltb}
 use lib.IntN.{pos}
@@ -26,8 +26,8 @@ use Rattle.ledger.specs.Tx.{Tx, noRead, readOf, writeOf, noWrite, wrongK
 use Rattle.ledger.specs.State.{State, versions, store}
 use Rattle.ledger.specs.Gate.{pages, txAt, txs, lentRow}
 use Rattle.ledger.specs.Commit.{names, passes, stamp, left, write, afterPage, checkVerdict, commit, verdicts, passed, commitBatch}
-use Rattle.ledger.specs.Inner.{Level, Commitment, txsIn}
-use Rattle.lists.proofs.Tables.{length-tab, tab-same}
+use Rattle.ledger.specs.Inner.{Level, Commitment, applied}
+use Rattle.lists.proofs.Tables.{length-tab}
 use Rattle.ledger.specs.Value.{isZero}
 use Rattle.ledger.proofs.Faults.{and-both}
 use Rattle.ledger.proofs.Zero.{zero-is}
@@ -44,6 +44,11 @@ pub commit-last : (n i : ℕ) (s : State) (xs : List Tx) (x : Tx) → commit n i
 unfolding commit
 commit-last n i s [] x = rw add-zero
 commit-last n i s (y ∷ xs) x = rw (add-suc, ← suc-add) (commit-last n (suc i) (afterPage n i s y) xs x)
+
+pub applied-last : (n i : ℕ) (s : State) (xs : List Tx) (x : Tx) → applied n i s (xs ++ (x ∷ [])) ≡ write (stamp n (i + length xs)) (applied n i s xs) (x .writes)
+unfolding applied
+applied-last n i s [] x = rw add-zero
+applied-last n i s (y ∷ xs) x = rw (add-suc, ← suc-add) (applied-last n (suc i) (write (stamp n i) s (y .writes)) xs x)
 
 pub verdicts-last : (n i : ℕ) (s : State) (xs : List Tx) (x : Tx) → verdicts n i s (xs ++ (x ∷ [])) ≡ verdicts n i s xs ++ (checkVerdict (commit n i s xs) x ∷ [])
 unfolding verdicts commit
@@ -106,6 +111,21 @@ commit-kept n i s [] = kept-self s
 commit-kept n i s (x ∷ xs) =
     let t = afterPage n i s x in
     kept-more s t _ (after-kept n i s x) (commit-kept n (suc i) t xs)
+
+pub applied-kept : (n i : ℕ) (s : State) (xs : List Tx) → Kept s (applied n i s xs)
+unfolding applied
+applied-kept n i s [] = kept-self s
+applied-kept n i s (x ∷ xs) =
+    let t = write (stamp n i) s (x .writes) in
+    kept-more s t _ (write-kept (stamp n i) s (x .writes)) (applied-kept n (suc i) t xs)
+
+-- one more of a table of transactions
+tab-more : (tx : ℕ → Tx) (i : ℕ) → tab (i + 1) tx ≡ tab i tx ++ (tx i ∷ [])
+unfolding tab
+tab-more tx i = rw add-one
+
+pub applied-next : (tx : ℕ → Tx) (n i : ℕ) (s : State) → applied n 0 s (tab (i + 1) tx) ≡ write (stamp n i) (applied n 0 s (tab i tx)) (tx i .writes)
+applied-next tx n i s = rw (tab-more tx i, applied-last, length-tab, zero-add)
 
 -- ---- the version check, as a search
 
@@ -181,15 +201,11 @@ module _ (tx : ℕ → Tx) (s : State) (n : ℕ) (vs : List ℕ) where
   many : (i : ℕ) → length (verdicts n 0 s (first i)) ≡ i
   many i = verdicts-length n 0 s (first i) ∙ length-tab tx i
 
-  next : (i : ℕ) → first (i + 1) ≡ first i ++ (tx i ∷ [])
-  unfolding tab
-  next i = rw add-one
-
   next-commit : (i : ℕ) → commit n 0 s (first (i + 1)) ≡ afterPage n i (commit n 0 s (first i)) (tx i)
-  next-commit i = rw (next i, commit-last, length-tab, zero-add)
+  next-commit i = rw (tab-more tx i, commit-last, length-tab, zero-add)
 
   next-verdicts : (i : ℕ) → verdicts n 0 s (first (i + 1)) ≡ verdicts n 0 s (first i) ++ (checkVerdict (commit n 0 s (first i)) (tx i) ∷ [])
-  next-verdicts i = rw (next i, verdicts-last)
+  next-verdicts i = rw (tab-more tx i, verdicts-last)
 
   module _ (i count : ℕ) (t : State) (ws : List ℕ) (c : Committing i count t ws) where
     pub committing-kept : Kept s t
@@ -234,11 +250,6 @@ module _ (tx : ℕ → Tx) (s : State) (n : ℕ) (vs : List ℕ) where
 pub count-txs : (batch : List ℕ) → length (txs batch) ≡ pages batch
 unfolding txs
 count-txs batch = length-tab (txAt batch) (pages batch)
-
--- an order that names each page at its own place gives the batch
-pub in-turn-txs : (batch order : List ℕ) → ((i : ℕ) → i < pages batch → getD order i 0 ≡ i) → txsIn batch order (pages batch) ≡ txs batch
-unfolding txs txsIn
-in-turn-txs batch order h = tab-same _ (txAt batch) (pages batch) (λ i l. ap (txAt batch) (h i l))
 
 module _ (batch : List ℕ) (s : State) (n : ℕ) (vs : List ℕ) where
   -- the rows of commit's own

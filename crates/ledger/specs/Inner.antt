@@ -1,7 +1,7 @@
 -- What only the contracts between the ledger's functions say: no reader of a service's promise needs it. Assumes nothing.
-use Prim.Native.Nat.{ℕ, _+_, _*_, _/_, _≤_, _<_}
+use Prim.Native.Nat.{ℕ, suc, _+_, _*_, _/_, _≤_, _<_}
 use mathlib.Core.Bool.{false}
-use mathlib.Core.List.{List, _++_}
+use mathlib.Core.List.{List, [], _∷_, _++_}
 use mathlib.Core.Path.{_≡_}
 use lib.ListN.{length, getD, drop}
 use lib.Seq.{sets}
@@ -14,7 +14,7 @@ use Rattle.ledger.specs.Page.{readCount, writeCount, size, pageTx, pageF
 use Rattle.ledger.specs.Services.{WrittenPage, laidRows}
 use Rattle.ledger.specs.State.{State}
 use Rattle.ledger.specs.Gate.{txAt, beyond}
-use Rattle.ledger.specs.Commit.{commit, verdicts, passed}
+use Rattle.ledger.specs.Commit.{stamp, write, commit, verdicts, passed}
 
 -- a page of 512 bytes whose counts are good: what reading it where it lies asks
 pub record Counted (p : List ℕ) : Type 0 where
@@ -62,3 +62,8 @@ pub record Commitment (xs : List Tx) (s : State) (n : ℕ) (vs : List ℕ) (coun
   pub count-is : count ≡ passed (verdicts n 0 s xs)
   pub state-is : new ≡ commit n 0 s xs
   pub verdicts-are : filled ≡ verdicts n 0 s xs ++ drop (length xs) vs
+
+-- what the writes of transactions in turn leave, each at its place from i on, where none of them is asked whether it passes
+unfoldable pub applied : ℕ → ℕ → State → List Tx → State
+applied n i s [] = s
+applied n i s (x ∷ xs) = applied n (suc i) (write (stamp n i) s (x .writes)) xs

@@ -18,9 +18,10 @@ ghost use Rattle.lists.specs.Search.{firstIn};
 ghost use Rattle.ledger.specs.Page.{pageTx};
 ghost use Rattle.ledger.specs.Tx.{readOf, wrongKind};
 ghost use Rattle.ledger.specs.State.{stateOf, versionsIn};
-ghost use Rattle.ledger.specs.Gate.{pages};
+ghost use Rattle.lists.specs.Tables.{tab};
+ghost use Rattle.ledger.specs.Gate.{pages, txAt};
 ghost use Rattle.ledger.specs.Commit.{names, passes, left, write, afterPage, committed, commitBatch};
-ghost use Rattle.ledger.specs.Inner.{Level, Ready, Batch, Commitment, txsIn};
+ghost use Rattle.ledger.specs.Inner.{Level, Ready, Batch, Commitment, txsIn, applied};
 
 // The verdicts of commit.
 pub const PASSED: u8 = 0;
@@ -130,45 +131,29 @@ fn commit_page(
     true
 }
 
-// The page indexes of a full batch, in batch order.
-fn in_turn() -> [u8; layout::MOST_PAGES]
-    ensures { λ r. ⌜ ((i : ℕ) → i < 64 → getD r i 0 ≡ i) ⌝ }
-{
-    let mut all = [0u8; layout::MOST_PAGES];
-    let mut i = 0;
-    while i < layout::MOST_PAGES {
-        all[i] = i as u8;
-        i += 1;
-    }
-    all
-}
-
-// Commits the pages that the first `k` entries of an order name, in its order, and gives the number that pass.
-pub fn commit_pages(
+// Commits the first `m` pages in batch order, and gives the number that pass.
+fn commit_pages(
     batch: &[u8],
-    order: &[u8],
-    k: usize,
+    m: usize,
     blocks: &mut [u32],
     places: &mut [u16],
     values: &mut [i64],
     n: u32,
     verdicts: &mut [u8],
 ) -> usize
-    requires { ⌜ Batch (length (now blocks)) (now batch) (pages (now batch)) ⌝ }
+    requires { ⌜ Batch (length (now blocks)) (now batch) m ⌝ }
     requires { ⌜ Level (now blocks) (now places) (now values) ⌝ }
-    requires { ⌜ (k ≤ 64) × (k ≤ length (now order)) × (k ≤ length (now verdicts)) ⌝ }
-    requires { ⌜ ((i : ℕ) → i < k → getD (now order) i 0 < pages (now batch)) ⌝ }
+    requires { ⌜ m ≤ length (now verdicts) ⌝ }
     ensures { λ r. ⌜ (
         let s = stateOf (now (blocks .entry)) (now (places .entry)) (now (values .entry)) in
         let left = stateOf (now (blocks .exit)) (now (places .exit)) (now (values .exit)) in
-        Commitment (txsIn (now (batch .entry)) (now (order .entry)) k) s n (now (verdicts .entry)) r left
-        (now (verdicts .exit))
+        Commitment (tab m (txAt (now (batch .entry)))) s n (now (verdicts .entry)) r left (now (verdicts .exit))
         ) ⌝ }
 {
     let mut count = 0;
     let mut i = 0;
-    while i < k {
-        let page = layout::page_at(batch, order[i] as usize);
+    while i < m {
+        let page = layout::page_at(batch, i);
         if commit_page(page, blocks, places, values, n, i as u16) {
             verdicts[i] = PASSED;
             count += 1;
@@ -178,6 +163,37 @@ pub fn commit_pages(
         i += 1;
     }
     count
+}
+
+// Applies the pages that the first `k` entries of an order name, each at its place there: what committing them leaves where
+// each of them passes.
+pub fn apply_pages(
+    batch: &[u8],
+    order: &[u8],
+    k: usize,
+    blocks: &mut [u32],
+    places: &mut [u16],
+    values: &mut [i64],
+    n: u32,
+)
+    requires { ⌜ Batch (length (now blocks)) (now batch) (pages (now batch)) ⌝ }
+    requires { ⌜ Level (now blocks) (now places) (now values) ⌝ }
+    requires { ⌜ (k ≤ 64) × (k ≤ length (now order)) ⌝ }
+    requires { ⌜ ((i : ℕ) → i < k → getD (now order) i 0 < pages (now batch)) ⌝ }
+    ensures { λ _. ⌜ (
+        let s = stateOf (now (blocks .entry)) (now (places .entry)) (now (values .entry)) in
+        let left = stateOf (now (blocks .exit)) (now (places .exit)) (now (values .exit)) in
+        left ≡ applied n 0 s (txsIn (now (batch .entry)) (now (order .entry)) k)
+        ) ⌝ }
+{
+    let mut i = 0;
+    while i < k {
+        let index = order[i] as usize;
+        let place = i as u16;
+        let stamp = Stamp { number: n, place };
+        apply(layout::page_at(batch, index), blocks, places, values, stamp);
+        i += 1;
+    }
 }
 
 // Commits a batch under the number n: the gate's refusals.
@@ -202,7 +218,6 @@ pub fn commit_batch(
     if let Finding::Found { refusal } = found {
         return Answer::Refused { refusal };
     }
-    let order = in_turn();
-    let count = commit_pages(batch, &order, m, blocks, places, values, n, verdicts);
+    let count = commit_pages(batch, m, blocks, places, values, n, verdicts);
     Answer::Count { count }
 }

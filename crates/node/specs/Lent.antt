@@ -16,6 +16,7 @@ use Rattle.ledger.specs.Services.{readPage, WrittenPage}
 use Rattle.ledger.specs.State.{State}
 use Rattle.ledger.specs.Commit.{Commits}
 use Rattle.planning.specs.Plan.{Plans}
+use Rattle.planning.specs.Joined.{Joined}
 use Rattle.node.specs.Word.{upper, word}
 
 -- ---- a transaction as the node lends it: the number of reads, of writes and the ticket, and six arrays of 32
@@ -121,3 +122,12 @@ pub record PlanLeft : Type 0 where
 
 abbrev pub planLeft : Plans → PlanLeft
 planLeft p = record { word = word (p .answer); verdicts = p .verdicts; order = p .order; out = p .out }
+
+pub record JoinedLeft : Type 0 where
+  pub word : ℕ
+  pub state : State
+  pub verdicts : List ℕ
+  pub order : List ℕ
+
+abbrev pub joinedLeft : Joined → JoinedLeft
+joinedLeft j = record { word = word (j .answer); state = j .state; verdicts = j .verdicts; order = j .order }

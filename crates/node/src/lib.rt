@@ -16,9 +16,10 @@ ghost use Rattle.ledger.specs.Services.{writePage};
 ghost use Rattle.ledger.specs.State.{stateOf};
 ghost use Rattle.ledger.specs.Commit.{commitBatch};
 ghost use Rattle.planning.specs.Plan.{planBatch};
+ghost use Rattle.planning.specs.Joined.{planAndCommit};
 ghost use Rattle.refusals.specs.Outcome.{outcome};
 ghost use Rattle.node.specs.Word.{upper, word};
-ghost use Rattle.node.specs.Lent.{lentTx, pageLeft, textLeft, writtenLeft, putLeft, commitLeft, planLeft};
+ghost use Rattle.node.specs.Lent.{lentTx, pageLeft, textLeft, writtenLeft, putLeft, commitLeft, planLeft, joinedLeft};
 
 mod arrays;
 
@@ -82,6 +83,27 @@ pub extern "C" fn nevolisca_commit(
         ) ⌝ }
 {
     answered(ledger::commit::commit_batch(batch, blocks, places, values, n, verdicts))
+}
+
+// Plans a batch and commits the kept pages: the state, the verdicts and the order are filled.
+#[no_mangle]
+pub extern "C" fn nevolisca_plan_and_commit(
+    batch: &[u8],
+    blocks: &mut [u32],
+    places: &mut [u16],
+    values: &mut [i64],
+    n: u32,
+    verdicts: &mut [u8],
+    order: &mut [u8],
+) -> u64
+    ensures { λ r. ⌜ (
+        let s = stateOf (now (blocks .entry)) (now (places .entry)) (now (values .entry)) in
+        let left = stateOf (now (blocks .exit)) (now (places .exit)) (now (values .exit)) in
+        record { word = r; state = left; verdicts = now (verdicts .exit); order = now (order .exit) }
+        ≡ joinedLeft (planAndCommit (now (batch .entry)) s n (now (verdicts .entry)) (now (order .entry)))
+        ) ⌝ }
+{
+    answered(planner::joined::plan_and_commit(batch, blocks, places, values, n, verdicts, order))
 }
 
 // Reads a tonnage text.

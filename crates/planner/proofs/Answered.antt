@@ -18,13 +18,14 @@ use Rattle.orders.proofs.Arranged.{by-ticket-perm}
 use Rattle.sets.specs.Set.{member, members}
 use Rattle.ledger.specs.declared.Version.{Version}
 use Rattle.ledger.specs.Gate.{pages, txAt}
-use Rattle.ledger.specs.Inner.{Batch}
+use Rattle.ledger.specs.Inner.{Batch, txsIn}
 use Rattle.lists.proofs.Tables.{tab-same}
 use Rattle.refusals.specs.declared.Answer.the-variants.{Count}
 use Rattle.planner.specs.Ranks.{demands, nth, Sound, Ranked, Planned}
 use Rattle.planning.specs.Plan.{current, before, sequence, kept, verdict, order, gathered, plans, planned}
 use Rattle.planning.proofs.Few.{order-short}
 use Rattle.planning.proofs.Kept.{sequence-perm, order-below}
+use Rattle.planning.proofs.OutBatch.{tab-map}
 use Rattle.planner.proofs.Steps.{Lined, lined-different, order-is, filled-many, filled-front, scheduled}
 
 -- ---- what the steps ask of one another
@@ -118,6 +119,14 @@ module _
   named-below j h =
       rw (named-is j h)
       (order-below held (txAt batch) (pages batch) _ (sequence-perm held (txAt batch) (pages batch)) (getD-in o j 0 (omega (arith, p .count-is))))
+
+  -- the transactions that it names
+  pub named-txs : txsIn batch os′ k ≡ map (txAt batch) o
+  unfolding txsIn
+  named-txs =
+      tab-same _ (λ j. txAt batch (getD o j 0)) k (λ j h. ap (txAt batch) (named-is j h))
+      ∙ ap (λ n. tab n (λ j. txAt batch (getD o j 0))) (p .count-is)
+      ∙ tab-map (txAt batch) o
 
   pub plan-copied : (out out′ : List ℕ) → out′ ≡ gathered batch (take k os′) ++ drop (512 * k) out → planned (Count k) vs′ os′ out′ ≡ plans batch held (sequence held (txAt batch) (pages batch)) vs os out
   unfolding plans

@@ -2,6 +2,7 @@
 mod admission;
 mod demand;
 mod fill;
+pub mod joined;
 pub mod plan;
 mod ranks;
 mod schedule;

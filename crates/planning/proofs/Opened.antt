@@ -1,6 +1,6 @@
 -- What a plan comes to where the gate finds nothing, and where it finds a fault. Assumes nothing.
 use mathlib.Core.Path.{_≡_, sym}
-use mathlib.Core.Bool.{_||_}
+use mathlib.Core.Bool.{false, _||_}
 use mathlib.Core.List.{List, [], _∷_}
 use Prim.Native.Nat.{ℕ, _*_, _≤_}
 use native.Mathlib.Omega.{arith}
@@ -15,6 +15,10 @@ use Rattle.ledger.specs.Gate.{pages, txAt, lentRow}
 use Rattle.ledger.proofs.Faults.{or-none}
 use Rattle.planning.specs.Plan.{sequence, order, plans, short, planBatch}
 use Rattle.ledger.proofs.Gated.{gateFault}
+
+-- two lists of which none is shorter than m
+pub none-shorter : (a b m : ℕ) → (ltb a m || ltb b m) ≡ false → (m ≤ a) × (m ≤ b)
+none-shorter a b m e = let f = or-none (ltb a m) (ltb b m) e in (ltb-false a m (f .0), ltb-false b m (f .1))
 
 module _ (batch : List ℕ) (s : State) (n : ℕ) (vs os out : List ℕ) where
   -- the rows of plan's own
@@ -39,8 +43,6 @@ module _ (batch : List ℕ) (s : State) (n : ℕ) (vs os out : List ℕ) where
   pub not-short : first own ≡ clear → (pages batch ≤ length vs) × (pages batch ≤ length os) × (pages batch * 512 ≤ length out)
   not-short e =
       let a = or-none (ltb (length vs) (pages batch) || ltb (length os) (pages batch)) _ (row-none (lentRow (short batch vs os out)) [] e .0) in
-      let f = or-none (ltb (length vs) (pages batch)) _ (a .0) in
-      let x = ltb-false (length vs) (pages batch) (f .0) in
-      let y = ltb-false (length os) (pages batch) (f .1) in
+      let l = none-shorter (length vs) (length os) (pages batch) (a .0) in
       let z = ltb-false (length out) (512 * pages batch) (a .1) in
-      (omega arith, omega arith, omega arith)
+      (l .0, l .1, omega arith)

@@ -31,7 +31,7 @@ unfolding tab
 map-tab f g zero = refl
 map-tab f g (suc n) = map-append f (tab n g) (g n ∷ []) ∙ ap (λ l. l ++ (f (g n) ∷ [])) (map-tab f g n)
 
-tab-map : {X : Type 0} (f : ℕ → X) (is : List ℕ) → tab (length is) (λ j. f (getD is j 0)) ≡ map f is
+pub tab-map : {X : Type 0} (f : ℕ → X) (is : List ℕ) → tab (length is) (λ j. f (getD is j 0)) ≡ map f is
 tab-map f is = sym (map-tab f (λ j. getD is j 0) (length is)) ∙ ap (map f) (tab-list is 0)
 
 -- ---- pages gathered

@@ -1,19 +1,17 @@
 -- What the text is on each way through the program. Assumes nothing.
-use Prim.Native.Nat.{ℕ, _*_, _≤_}
-use mathlib.Core.Path.{_≡_, refl, ap, _∙_}
+use Prim.Native.Nat.{ℕ, _≤_}
+use mathlib.Core.Path.{_≡_, refl, ap}
 use mathlib.Core.List.{List}
 use native.Mathlib.Omega.{arith}
-use lib.ListN.{length, take, drop, replicate, length-append}
+use lib.ListN.{length, drop, length-append}
 use Rattle.refusals.specs.declared.Refusal.{Refusal}
-use Rattle.refusals.specs.declared.Answer.{Answer}
 use Rattle.refusals.specs.declared.Answer.the-variants.{Count, Refused}
 use Rattle.refusals.specs.Outcome.{gives, refuses}
 use Rattle.ledger.specs.State.{State}
-use Rattle.ledger.specs.Commit.{Commits, committed, commitBatch}
-use Rattle.planning.specs.Plan.{Plans, planned}
+use Rattle.planning.specs.Joined.{Joined, joined}
 use Rattle.lists.specs.Tables.{filled}
 use Rattle.report.specs.Listing.{listed, refused}
-use Rattle.report.specs.Program.{Within, startNumber, plan, stateAfter, stateLeft, shown, told, toldState}
+use Rattle.report.specs.Program.{Within, startNumber, done, shown, told, toldState}
 use Rattle.report.specs.declared.program.Input.{Input}
 use Rattle.report.specs.declared.program.Input.the-variants.{Bytes, TooLong, Unread}
 
@@ -30,41 +28,30 @@ same-left : (text t u : List ℕ) (s z : State) (r : ℕ) (new : List ℕ) (left
 same-left text t u s z r new left e f x = rw (← e, ← f) x
 
 module _ (text input : List ℕ) (s : State) where
-  -- what is written, and the state, once plan has left this
-  abbrev next : Plans → ℕ → State
-  next p k = commitBatch (take (512 * k) (p .out)) s startNumber (replicate 64 0) .state
-
-  abbrev due : Plans → List ℕ
-  due p =
-      elim (p .answer) [
-        | gives k ↦ listed text startNumber input (p .verdicts) (p .order) k (next p k)
+  -- what is written once the joined call has left this
+  abbrev due : Joined → List ℕ
+  due j =
+      elim (j .answer) [
+        | gives k ↦ listed text startNumber input (j .verdicts) (j .order) k (j .state)
         | refuses number place ↦ refused text number place
       ]
 
-  abbrev then : Plans → State
-  then p =
-      elim (p .answer) [
-        | gives k ↦ next p k
-        | refuses number place ↦ s
-      ]
+  told-due : (j : Joined) → j ≡ done input s → (r : ℕ) (new : List ℕ) → Told text (due j) r new
+      → Left text (shown input s text) (done input s .state) r new (j .state)
+  unfolding shown
+  told-due j e r new x =
+      same-left text (due j) (shown input s text) (j .state) (done input s .state) r new (j .state)
+      (ap due e) (ap (λ (i : Joined). i .state) e) (x .0, (x .1, refl))
 
-  pub told-refused : (f : Refusal) (a b c : List ℕ) → planned (Refused f) a b c ≡ plan input s
+  pub told-refused : (f : Refusal) (t : State) (a b : List ℕ) → joined (Refused f) t a b ≡ done input s
       → (r : ℕ) (new : List ℕ) → Told text (refused text (f .number) (f .place)) r new
-      → Left text (shown input s text) (stateLeft input s) r new s
-  unfolding shown stateLeft stateAfter
-  told-refused f a b c e r new x =
-      same-left text (refused text (f .number) (f .place)) (shown input s text) s (stateLeft input s) r new s
-      (ap due e) (ap then e) (x .0, (x .1, refl))
+      → Left text (shown input s text) (done input s .state) r new t
+  told-refused f t a b e = told-due (joined (Refused f) t a b) e
 
-  pub told-listed : (k : ℕ) (a b c : List ℕ) → planned (Count k) a b c ≡ plan input s
-      → (d : Answer) (t : State) (qs : List ℕ) → committed d t qs ≡ commitBatch (take (512 * k) c) s startNumber (replicate 64 0)
+  pub told-listed : (k : ℕ) (t : State) (a b : List ℕ) → joined (Count k) t a b ≡ done input s
       → (r : ℕ) (new : List ℕ) → Told text (listed text startNumber input a b k t) r new
-      → Left text (shown input s text) (stateLeft input s) r new t
-  unfolding shown stateLeft stateAfter
-  told-listed k a b c e d t qs f r new x =
-      let g : t ≡ commitBatch (take (512 * k) c) s startNumber (replicate 64 0) .state = ap (λ (x : Commits). x .state) f in
-      same-left text (listed text startNumber input a b k t) (shown input s text) t (stateLeft input s) r new t
-      (ap (listed text startNumber input a b k) g ∙ ap due e) (g ∙ ap then e) (x .0, (x .1, refl))
+      → Left text (shown input s text) (done input s .state) r new t
+  told-listed k t a b e = told-due (joined (Count k) t a b) e
 
 -- the text lies within the buffer
 filled-long : (text t new : List ℕ) (r : ℕ) → Told text t r new → r ≤ length new

@@ -1,12 +1,11 @@
 -- Document 01, 'The listing': what the program writes for what it reads, its state and its lists as it makes them. Assumes nothing.
-use Prim.Native.Nat.{ℕ, _*_, _≤_}
+use Prim.Native.Nat.{ℕ, _≤_}
 use mathlib.Core.List.{List, []}
 use lib.ListN.{take, replicate}
 use lib.IntN.{pos}
 use Rattle.refusals.specs.Outcome.{gives, refuses}
 use Rattle.ledger.specs.State.{State, stateOf}
-use Rattle.ledger.specs.Commit.{commitBatch}
-use Rattle.planning.specs.Plan.{Plans, planBatch}
+use Rattle.planning.specs.Joined.{Joined, planAndCommit}
 use Rattle.report.specs.Listing.{listed, refused}
 use Rattle.report.specs.declared.program.Input.{Input}
 use Rattle.report.specs.declared.program.Input.the-variants.{Bytes, TooLong, Unread}
@@ -25,27 +24,16 @@ start = stateOf (replicate 1024 0) (replicate 1024 65535) (replicate 1024 (pos 0
 abbrev pub startNumber : ℕ
 startNumber = 1
 
--- "plans": what plan leaves in the lists that the program lends it
-unfoldable pub plan : List ℕ → State → Plans
-plan input s = planBatch input s startNumber (replicate 64 0) (replicate 64 0) (replicate 32768 0)
-
--- "commits the out batch": the state after the first k pages of it
-unfoldable pub stateAfter : List ℕ → State → ℕ → State
-stateAfter input s k = commitBatch (take (512 * k) (plan input s .out)) s startNumber (replicate 64 0) .state
-
--- the state in the end, by plan's answer
-unfoldable pub stateLeft : List ℕ → State → State
-stateLeft input s =
-    elim (plan input s .answer) [
-      | gives k ↦ stateAfter input s k
-      | refuses number place ↦ s
-    ]
+-- "plans, commits the out batch", by document 02's "The listing moves to it": what the joined call leaves in the lists that the
+-- program lends it
+unfoldable pub done : List ℕ → State → Joined
+done input s = planAndCommit input s startNumber (replicate 64 0) (replicate 64 0)
 
 -- "and writes": the text for an input; `text` is the buffer that is lent for it
 unfoldable pub shown : List ℕ → State → List ℕ → List ℕ
 shown input s text =
-    elim (plan input s .answer) [
-      | gives k ↦ listed text startNumber input (plan input s .verdicts) (plan input s .order) k (stateAfter input s k)
+    elim (done input s .answer) [
+      | gives k ↦ listed text startNumber input (done input s .verdicts) (done input s .order) k (done input s .state)
       | refuses number place ↦ refused text number place
     ]
 
@@ -57,6 +45,6 @@ told Unread page s text = []
 
 -- and the state that is left
 abbrev pub toldState : Input → List ℕ → State → State
-toldState (Bytes n) page s = stateLeft (take n page) s
+toldState (Bytes n) page s = done (take n page) s .state
 toldState TooLong page s = s
 toldState Unread page s = s

@@ -6,7 +6,7 @@ ghost use mathlib.Core.Path.{_≡_};
 ghost use lib.ListN.{length};
 ghost use Rattle.lists.specs.Tables.{filled};
 ghost use Rattle.ledger.specs.State.{stateOf};
-ghost use Rattle.report.specs.Program.{Within, stateLeft, shown, told, toldState};
+ghost use Rattle.report.specs.Program.{Within, done, shown, told, toldState};
 
 // The number that the batch is planned and committed under.
 const START_NUMBER: u32 = 1;
@@ -18,7 +18,7 @@ pub enum Input {
     Unread,
 }
 
-// Plans an input over a state, commits the out batch, and fills a buffer with the listing or the refusal's line; gives its length.
+// Plans and commits an input over a state, and fills a buffer with the listing or the refusal's line; gives its length.
 fn list_input(
     input: &[u8],
     blocks: &mut [u32],
@@ -37,14 +37,12 @@ fn list_input(
     ensures { λ r. ⌜ (
         let s = stateOf (now (blocks .entry)) (now (places .entry)) (now (values .entry)) in
         let left = stateOf (now (blocks .exit)) (now (places .exit)) (now (values .exit)) in
-        left ≡ stateLeft (now (input .entry)) s
+        left ≡ done (now (input .entry)) s .state
         ) ⌝ }
 {
     let mut verdicts = [0u8; layout::MOST_PAGES];
     let mut order = [0u8; layout::MOST_PAGES];
-    let mut out = [0u8; layout::MOST_BYTES];
-    let mut passed = [0u8; layout::MOST_PAGES];
-    let planned = planner::plan::plan_batch(
+    let answer = planner::joined::plan_and_commit(
         input,
         blocks,
         places,
@@ -52,32 +50,20 @@ fn list_input(
         START_NUMBER,
         &mut verdicts,
         &mut order,
-        &mut out,
     );
-    match planned {
+    match answer {
         Answer::Refused { refusal } => crate::fill_refusal(text, refusal.number, refusal.place),
-        Answer::Count { count: pages } => {
-            let end = layout::PAGE * pages;
-            ledger::commit::commit_batch(
-                &out[..end],
-                blocks,
-                places,
-                values,
-                START_NUMBER,
-                &mut passed,
-            );
-            crate::fill_listing(
-                text,
-                START_NUMBER,
-                input,
-                &verdicts,
-                &order,
-                pages,
-                blocks,
-                places,
-                values,
-            )
-        }
+        Answer::Count { count: kept } => crate::fill_listing(
+            text,
+            START_NUMBER,
+            input,
+            &verdicts,
+            &order,
+            kept,
+            blocks,
+            places,
+            values,
+        ),
     }
 }
 

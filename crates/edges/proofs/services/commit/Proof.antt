@@ -55,14 +55,8 @@ end-requires c κs = search needs
 same-bytes-requires : tie.Need-same-bytes-requires
 same-bytes-requires c κs = search needs
 
-same-blocks-requires : tie.Need-same-blocks-requires
-same-blocks-requires c κs = search needs
-
-same-places-requires : tie.Need-same-places-requires
-same-places-requires c κs = search needs
-
-same-values-requires : tie.Need-same-values-requires
-same-values-requires c κs = search needs
+same-state-requires : tie.Need-same-state-requires
+same-state-requires c κs = search needs
 
 answered-requires : tie.Need-answered-requires
 answered-requires c κs = search needs
@@ -106,9 +100,7 @@ commit-spec =
     commit-batch-requires
     end-requires
     same-bytes-requires
-    same-blocks-requires
-    same-places-requires
-    same-values-requires
+    same-state-requires
     answered-requires
     is-right-requires
     same-length

@@ -1,18 +1,15 @@
 -- `commit_batch`: the gate, then the pages.
-use Prim.Native.Nat.{ℕ, _<_}
-use Rattle.ledger.proofs.Commits.{own, commit-refused, commit-taken, in-turn-txs}
+use Rattle.ledger.proofs.Commits.{own, commit-refused, commit-taken}
 use Rattle.ledger.proofs.Gated.{Through, gate-open, gateFault, open-own}
-use Rattle.ledger.specs.Gate.{pages}
+use Rattle.ledger.specs.Gate.{txs}
 use Rattle.ledger.specs.State.{State, stateOf}
 use Rattle.refusals.proofs.Rows.{row-none}
 use Rattle.refusals.specs.Fault.{Row, clear, finding}
 use borrow.Author.Needs.{needs}
 use borrow.Author.Tests.{ltb-false}
 use denote.Ref.{now}
-use lib.ListN.{getD}
 use mathlib.Core.List.{List, []}
 use mathlib.Core.Path.{_≡_, refl, sym, ap, _∙_}
-use native.Mathlib.Omega.{arith}
 use Rattle.ledger.proofs.commit.commit_batch.Statement.{statement}
 use Rattle.ledger.proofs.commit.commit_batch.Tie as tie
 
@@ -32,10 +29,6 @@ let-through c = sym (c .before .before .gate-fault .ensures .0) ∙ ap finding (
 
 gated : (c : tie.After-enum-told) → let s = start (c .before .before) in Through (now (s .args .batch)) (entered s) (s .args .n)
 gated c = let s = start (c .before .before) in gate-open (mine s) (now (s .args .batch)) (entered s) (s .args .n) (let-through c)
-
--- each page stands at its own place
-own-place : (c : tie.After-in-turn) (i : ℕ) → i < pages (now (start (c .before .before .before) .args .batch)) → getD (c .in-turn .result) i 0 ≡ i
-own-place c i l = c .in-turn .ensures i (omega (arith, gated (c .before) .ready .few))
 
 gate-fault-requires : tie.Need-gate-fault-requires
 gate-fault-requires c κs = search needs
@@ -62,20 +55,12 @@ returns c =
 enum-told : tie.Need-enum-told
 enum-told c = search needs
 
-in-turn-requires : tie.Need-in-turn-requires
-in-turn-requires c κs = search needs
-
-slice-aggregate-commit-pages : tie.Need-slice-aggregate-commit-pages
-slice-aggregate-commit-pages c = search needs
-
 commit-pages-requires : tie.Need-commit-pages-requires
 commit-pages-requires c κs =
-    let i = c .before .before .before .before .before in
-    let t = i .before in
+    let t = c .before .before .before .before in
     let s = start (t .before .before) in
     let o = gated t in
-    let long = ltb-false _ _ (row-none _ [] (open-own (mine s) (now (s .args .batch)) (entered s) (s .args .n) (let-through t)) .0) in
-    (o .ready, (o .level, ((o .ready .few, omega (arith, o .ready .few), long), λ i′ l. omega (arith, own-place i i′ l))))
+    (o .ready, (o .level, ltb-false _ _ (row-none _ [] (open-own (mine s) (now (s .args .batch)) (entered s) (s .args .n) (let-through t)) .0)))
 
 same-length-4 : tie.Need-same-length-4
 same-length-4 c = search needs
@@ -90,13 +75,12 @@ same-length-7 : tie.Need-same-length-7
 same-length-7 c = search needs
 
 returns-2 : tie.Need-returns-2
+unfolding txs
 returns-2 c =
     let w = c .before .before .before .before .before .before .before in
-    let i = w .before .before .before .before .before .before in
-    let t = i .before in
+    let t = w .before .before .before .before .before in
     let s = start (t .before .before) in
-    commit-taken (now (s .args .batch)) (entered s) (s .args .n) (now (s .args .verdicts)) (let-through t)
-    (rw (in-turn-txs (now (s .args .batch)) _ (own-place i)) at (w .commit-pages .ensures))
+    commit-taken (now (s .args .batch)) (entered s) (s .args .n) (now (s .args .verdicts)) (let-through t) (w .commit-pages .ensures)
 
 pub commit-batch-spec : {M : Type 1} → statement M
 commit-batch-spec =
@@ -109,8 +93,6 @@ commit-batch-spec =
     same-length-3
     returns
     enum-told
-    in-turn-requires
-    slice-aggregate-commit-pages
     commit-pages-requires
     same-length-4
     same-length-5

@@ -1,4 +1,4 @@
--- `commit_pages`: the pages in the order's turn.
+-- `commit_pages`: the pages in turn.
 use mathlib.Core.Path.{_≡_, sym, ap, _∙_}
 use mathlib.Core.Bool.{Bool, true, false, cond}
 use mathlib.Core.Logic.{⊎-elim}
@@ -8,33 +8,27 @@ use native.Mathlib.Nat.{add-zero}
 use native.Mathlib.Omega.{arith}
 use borrow.Author.Needs.{needs}
 use denote.Ref.{now}
-use lib.ListN.{length, getD, set}
+use lib.ListN.{length, set}
 use Rattle.ledger.specs.Gate.{txAt}
 use Rattle.ledger.specs.Page.{pageTx}
 use Rattle.ledger.specs.State.{State, stateOf}
-use Rattle.ledger.specs.Tx.{Tx}
-use Rattle.ledger.specs.Inner.{txsIn}
 use Rattle.ledger.proofs.Commits.{Kept, kept-level, Committing, committing-begins, committing-kept, committing-long, committing-turns, committing-ends}
 use Rattle.ledger.proofs.commit.commit_pages.Statement.{statement}
 use Rattle.ledger.proofs.commit.commit_pages.Tie as tie
 
--- the transaction that an order names at a place
-abbrev named : List ℕ → List ℕ → ℕ → Tx
-named batch order i = txAt batch (getD order i 0)
-
 abbrev Inv-loop : tie.InvT-loop
-Inv-loop batch order k blocks₀ places₀ values₀ n verdicts₀ count₀ i₀ blocks places values verdicts count i =
-    (i ≤ k) × (count ≤ i) × Committing (named batch order) (stateOf blocks₀ places₀ values₀) n verdicts₀ i count (stateOf blocks places values) verdicts
+Inv-loop batch m blocks₀ places₀ values₀ n verdicts₀ count₀ i₀ blocks places values verdicts count i =
+    (i ≤ m) × (count ≤ i) × Committing (txAt batch) (stateOf blocks₀ places₀ values₀) n verdicts₀ i count (stateOf blocks places values) verdicts
 
 abbrev μ-loop : tie.MeasureT-loop
-μ-loop batch order k blocks₀ places₀ values₀ n verdicts₀ count₀ i₀ blocks places values verdicts count i = k - i
+μ-loop batch m blocks₀ places₀ values₀ n verdicts₀ count₀ i₀ blocks places values verdicts count i = m - i
 
 -- from a turn: its beginning, the function's, the state there and here
 abbrev start : tie.In-loop Inv-loop μ-loop → tie.Start Inv-loop μ-loop
-start t = t .before .before .before .before .before .before .before
+start t = t .before .before .before .before .before .before
 
 abbrev turn : tie.After-values Inv-loop μ-loop → tie.In-loop Inv-loop μ-loop
-turn v = v .before .before .before .before .before .before .before .before .before .before .before
+turn v = v .before .before .before .before .before .before .before .before .before .before
 
 abbrev entered : tie.Start Inv-loop μ-loop → State
 entered s = stateOf (now (s .args .blocks)) (now (s .args .places)) (now (s .args .values))
@@ -46,14 +40,14 @@ kept : (t : tie.In-loop Inv-loop μ-loop) → Kept (entered (start t)) (here t)
 kept t = committing-kept _ _ _ _ _ _ _ _ (t .before .loop .inv .2)
 
 left : (c : tie.After-loop Inv-loop μ-loop)
-    → Kept (entered (c .before .before .before .before .before .before .before)) (stateOf (c .before .loop .blocks) (c .before .loop .places) (c .before .loop .values))
+    → Kept (entered (c .before .before .before .before .before .before)) (stateOf (c .before .loop .blocks) (c .before .loop .places) (c .before .loop .values))
 left c = committing-kept _ _ _ _ _ _ _ _ (c .before .loop .inv .2)
 
 within : (t : tie.In-loop Inv-loop μ-loop) → t .before .loop .i < length (t .before .loop .verdicts)
 within t =
     let s = start t in
-    let l = committing-long _ _ _ _ _ _ _ _ (t .before .loop .inv .2) (omega (arith, t .loop-test .taken, s .pre .1 .1 .0)) in
-    omega (arith, l, t .loop-test .taken, s .pre .1 .1 .0)
+    let l = committing-long _ _ _ _ _ _ _ _ (t .before .loop .inv .2) (omega (arith, t .loop-test .taken, s .pre .1 .1)) in
+    omega (arith, l, t .loop-test .taken, s .pre .1 .1)
 
 -- a turn that found b, and stored the verdict and the count for it
 next : (v : tie.After-values Inv-loop μ-loop) (b : Bool) (count : ℕ) (verdicts : List ℕ)
@@ -63,7 +57,7 @@ next : (v : tie.After-values Inv-loop μ-loop) (b : Bool) (count : ℕ) (verdict
     p .commit-page .result ≡ b
     → count ≡ t .before .loop .count + cond b 1 0
     → verdicts ≡ set (t .before .loop .verdicts) (t .before .loop .i) (cond b 0 3)
-    → Committing (named (now (s .args .batch)) (now (s .args .order))) (entered s) (s .args .n) (now (s .args .verdicts)) (t .before .loop .i + 1) count
+    → Committing (txAt (now (s .args .batch))) (entered s) (s .args .n) (now (s .args .verdicts)) (t .before .loop .i + 1) count
     (stateOf (p .commit-page .last .1 .0) (p .commit-page .last .1 .1 .0) (p .commit-page .last .1 .1 .1 .0)) verdicts
 next v b count verdicts e f g =
     let p = v .before .before .before .before .before in
@@ -71,7 +65,7 @@ next v b count verdicts e f g =
     let s = start t in
     let l = p .commit-page .last .1 in
     committing-turns _ _ _ _ _ _ _ _ (t .before .loop .inv .2) _ b count (stateOf (l .0) (l .1 .0) (l .1 .1 .0)) verdicts
-    (omega (arith, t .loop-test .taken, s .pre .1 .1 .0))
+    (omega (arith, t .loop-test .taken, s .pre .1 .1))
     (ap pageTx (p .before .before .before .before .page-at .ensures))
     (sym e ∙ p .commit-page .ensures .0)
     (p .commit-page .ensures .1)
@@ -81,25 +75,17 @@ next v b count verdicts e f g =
 loop-holds : tie.Need-loop-holds Inv-loop μ-loop
 loop-holds c = (omega arith, omega arith, committing-begins _ _ _ _)
 
-shared-slice-read-page-at : tie.Need-shared-slice-read-page-at Inv-loop μ-loop
-shared-slice-read-page-at c = omega (arith, c .before .loop-test .taken, start (c .before) .pre .1 .1 .0)
-
-cast-page-at : tie.Need-cast-page-at Inv-loop μ-loop
-cast-page-at c = omega (arith, c .shared-slice-known3 .given (c .before .before .loop .i))
-
 page-at-requires : tie.Need-page-at-requires Inv-loop μ-loop
-page-at-requires c κs =
-    let s = start (c .before) in
-    omega (arith, s .pre .1 .1 .1 (c .before .before .loop .i) (c .before .loop-test .taken), s .pre .0 .whole)
+page-at-requires c κs = omega (arith, c .loop-test .taken, start c .pre .0 .whole)
 
 cast-commit-page : tie.Need-cast-commit-page Inv-loop μ-loop
-cast-commit-page c = search needs
+cast-commit-page c = let t = c .before .before .before .before in omega (arith, t .loop-test .taken, start t .pre .0 .few)
 
 commit-page-requires : tie.Need-commit-page-requires Inv-loop μ-loop
 commit-page-requires c κs =
-    let t = c .before .before .before .before .before in
+    let t = c .before .before .before .before in
     let s = start t in (
-      rw (c .before .before .before .page-at .ensures, kept t .blocks) (s .pre .0 .each _ (s .pre .1 .1 .1 (t .before .loop .i) (t .loop-test .taken))),
+      rw (c .before .before .before .page-at .ensures, kept t .blocks) (s .pre .0 .each (t .before .loop .i) (t .loop-test .taken)),
       kept-level (entered s) (here t) (kept t) (s .pre .1 .0),
     )
 
@@ -140,10 +126,9 @@ same-length-3 c = left c .values
 same-length-4 : tie.Need-same-length-4 Inv-loop μ-loop
 same-length-4 c =
     let h = c .before in
-    committing-long _ _ _ _ _ _ _ _ (h .loop .inv .2) (omega (arith, h .loop .inv .0, h .before .before .before .before .before .before .pre .1 .1 .0))
+    committing-long _ _ _ _ _ _ _ _ (h .loop .inv .2) (omega (arith, h .loop .inv .0, h .before .before .before .before .before .pre .1 .1))
 
 returns : tie.Need-returns Inv-loop μ-loop
-unfolding txsIn
 returns c = committing-ends _ _ _ _ _ _ _ _ (c .before .loop .inv .2) _ (omega (arith, c .before .loop .inv .0, c .loop-test .left))
 
 pub commit-pages-spec : {M : Type 1} → statement M
@@ -153,8 +138,6 @@ commit-pages-spec =
     Inv-loop
     μ-loop
     loop-holds
-    shared-slice-read-page-at
-    cast-page-at
     page-at-requires
     cast-commit-page
     commit-page-requires

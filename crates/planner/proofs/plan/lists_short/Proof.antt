@@ -1,5 +1,4 @@
 -- `lists_short`: the verdicts, then the order.
-use mathlib.Core.Path.{ap, sym}
 use borrow.Author.Tests.{lt-ltb, le-ltb}
 use Rattle.planner.proofs.plan.lists_short.Statement.{statement}
 use Rattle.planner.proofs.plan.lists_short.Tie as tie

@@ -5,7 +5,7 @@ use Rattle.ledger.specs.State.{State, stateOf}
 use Rattle.planner.proofs.Answered.{few, named-below, plan-copied}
 use Rattle.planning.proofs.Opened.{own, not-short, plan-refused, plan-open}
 use Rattle.planning.specs.Plan.{short}
-use Rattle.refusals.specs.Fault.{Row, clear, first, finding}
+use Rattle.refusals.specs.Fault.{Row, clear, finding}
 use Prim.Native.Nat.{ℕ, _*_, _≤_, _<_}
 use borrow.Author.Needs.{needs}
 use denote.Ref.{now}

@@ -1,12 +1,11 @@
 -- Demand 3 is met: for each sequence of admission, and for the ticket order that plan uses. Assumes nothing.
 use Prim.Native.Nat.{ℕ, _*_, _<_}
-use native.Mathlib.Omega.{arith}
 use mathlib.Core.List.{List, _∷_, List·Memᴰ·head, List·Memᴰ·tail, List·Memᴰ·cases-cons}
 use mathlib.Core.List.{List·Permᴰ, List·Permᴰ·trans, Permᴰ·symm}
 use mathlib.Core.Logic.{⊎-elim}
 use mathlib.Core.Path.{_≡_, refl, sym, ap, subst, _∙_}
 use lib.ListN.{length, take, drop, List·getD-append}
-use lib.Seq.{take-at, take-append-seam}
+use lib.Seq.{take-append-seam}
 use lib.Dec.{T}
 use Rattle.lists.specs.Members.{_∈_}
 use Rattle.lists.proofs.Membership.{perm-in, perm-length}
@@ -28,9 +27,9 @@ use Rattle.refusals.proofs.Answers.{value}
 use Rattle.planning.proofs.Opened.{plan-open, plan-clear}
 use Rattle.planning.proofs.Opened.{own as mine}
 use Rattle.claims.proofs.AnyOrder.{zeros-out, zeros-in, zeros-distinct, make-third}
-use Rattle.planning.proofs.Kept.{sequence-perm, kept-distinct, kept-current, kept-below, own-order}
+use Rattle.planning.proofs.Kept.{sequence-perm, kept-distinct, kept-current, kept-below, own-order, order-below}
 use Rattle.planning.proofs.Kept.{verdict-kept, verdict-small, verdict-stale, closes-cycle}
-use Rattle.planning.proofs.OutBatch.{gathered-whole}
+use Rattle.planning.proofs.OutBatch.{out-front}
 
 module _ (batch : List ℕ) (s : State) (n : ℕ) (seq vs os out : List ℕ) (q : Sequence batch s seq)
     (c : first (planRows batch s n vs os out) ≡ clear) where
@@ -73,9 +72,6 @@ module _ (batch : List ℕ) (s : State) (n : ℕ) (seq vs os out : List ℕ) (q 
       let o = own-order (versions s) b (pages batch) seq q in
       record { all-once = List·Permᴰ·trans zeros-kept (o .all-once); forward = o .forward }
 
-  inside : (i : ℕ) → i ∈ own → i < pages batch
-  inside i m = zeros-out batch (p .verdicts) (perm-in (Permᴰ·symm (own-is .all-once)) m) .0
-
   fresh : (i : ℕ) → i < pages batch → verdictAt (p .verdicts) i ≡ 0 → T (current (versions s) b i)
   fresh i h e =
       kept-current (versions s) b (pages batch) seq q (verdict-kept (versions s) b (pages batch) seq q i .0 (sym (verdict-at i h) ∙ e))
@@ -90,19 +86,16 @@ module _ (batch : List ℕ) (s : State) (n : ℕ) (seq vs os out : List ℕ) (q 
   unfolding plans
   order-front = take-append-seam own (drop (length own) os)
 
-  out-front : take (512 * length own) (p .out) ≡ gathered batch own
+  out-kept : take (512 * length own) (p .out) ≡ gathered batch own
   unfolding plans
-  out-front =
-      take-at (gathered batch own) (drop (512 * length own) out) (512 * length own)
-      (omega (arith, gathered-whole batch (pages batch) whole own inside))
-    where
-      whole : length batch ≡ pages batch * 512
-      whole = gate-open (mine batch s n vs os out) batch s n c .ready .whole
+  out-kept =
+      out-front batch (pages batch) (gate-open (mine batch s n vs os out) batch s n c .ready .whole) own
+      (λ i k. order-below (versions s) b (pages batch) seq q k) out
 
   certain-own : Certain batch s n (length own) p
   certain-own = record {
     third = rw order-front (make-third (mine batch s n vs os out) batch s n (p .verdicts) own c fresh own-is cycle);
-    out-pages = rw order-front out-front;
+    out-pages = rw order-front out-kept;
     count = sym (perm-length (own-is .all-once));
     each-verdict = λ i h. rw (verdict-at i h) (verdict-small (versions s) b seq i);
     stale = λ i h. rw (verdict-at i h) (verdict-stale (versions s) b seq i);

@@ -1,23 +1,21 @@
 -- Document 02, 'E2: One call for the ordinary batch': the joined call beside the two calls. Assumes nothing.
 use Prim.Native.Nat.{ℕ, _*_, _≤_}
-use mathlib.Core.Bool.{_||_}
 use mathlib.Core.List.{List, [], _∷_}
 use mathlib.Core.Path.{_≡_}
 use lib.ListN.{length, take}
-use lib.Dec.{ltb}
 use Rattle.refusals.specs.Outcome.{gives}
 use Rattle.refusals.specs.Fault.{Row}
 use Rattle.ledger.specs.State.{State}
 use Rattle.ledger.specs.Gate.{pages, txAt, lentRow, gateRows}
 use Rattle.ledger.specs.Commit.{commitBatch}
-use Rattle.planning.specs.Plan.{planBatch}
+use Rattle.planning.specs.Plan.{shortLists, planBatch}
 use Rattle.planning.specs.Joined.{Joined, planAndCommit}
 use Rattle.claims.specs.Serial.{Rules, Fits, run}
 use Rattle.claims.specs.Third.{zeros, Third}
 
 -- "Refusals: order and numbers as for plan, without the out batch in 14": the table
 abbrev pub joinedRows : List ℕ → State → ℕ → List ℕ → List ℕ → List Row
-joinedRows batch s n vs os = gateRows (lentRow (ltb (length vs) (pages batch) || ltb (length os) (pages batch)) ∷ []) batch s n
+joinedRows batch s n vs os = gateRows (lentRow (shortLists (pages batch) vs os) ∷ []) batch s n
 
 -- "Its equality with the two calls, where neither is refused": with plan on some out batch, and commit of its kept pages
 pub record TwoCalls (batch : List ℕ) (s : State) (n : ℕ) (vs os out : List ℕ) : Type 0 where

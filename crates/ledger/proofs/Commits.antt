@@ -27,7 +27,7 @@ use Rattle.ledger.specs.State.{State, versions, store}
 use Rattle.ledger.specs.Gate.{pages, txAt, txs, lentRow}
 use Rattle.ledger.specs.Commit.{names, passes, stamp, left, write, afterPage, checkVerdict, commit, verdicts, passed, commitBatch}
 use Rattle.ledger.specs.Inner.{Level, Commitment, applied}
-use Rattle.lists.proofs.Tables.{length-tab}
+use Rattle.lists.proofs.Tables.{length-tab, tab-more}
 use Rattle.ledger.specs.Value.{isZero}
 use Rattle.ledger.proofs.Faults.{and-both}
 use Rattle.ledger.proofs.Zero.{zero-is}
@@ -118,11 +118,6 @@ applied-kept n i s [] = kept-self s
 applied-kept n i s (x ∷ xs) =
     let t = write (stamp n i) s (x .writes) in
     kept-more s t _ (write-kept (stamp n i) s (x .writes)) (applied-kept n (suc i) t xs)
-
--- one more of a table of transactions
-tab-more : (tx : ℕ → Tx) (i : ℕ) → tab (i + 1) tx ≡ tab i tx ++ (tx i ∷ [])
-unfolding tab
-tab-more tx i = rw add-one
 
 pub applied-next : (tx : ℕ → Tx) (n i : ℕ) (s : State) → applied n 0 s (tab (i + 1) tx) ≡ write (stamp n i) (applied n 0 s (tab i tx)) (tx i .writes)
 applied-next tx n i s = rw (tab-more tx i, applied-last, length-tab, zero-add)

@@ -26,6 +26,11 @@ module _ {X : Type 0} (f : ℕ → X) where
       (λ l. List·getD-append (tab n f) (f n ∷ []) d i (rw (length-tab n) l) ∙ getD-tab n i d l)
       (eq-or-lt-of-le (le-of-suc-le-suc h))
 
+  -- one more
+  pub tab-more : (i : ℕ) → tab (i + 1) f ≡ tab i f ++ (f i ∷ [])
+  unfolding tab
+  tab-more i = rw add-one
+
 pub tab-same : {X : Type 0} (f g : ℕ → X) (n : ℕ) → ((i : ℕ) → i < n → f i ≡ g i) → tab n f ≡ tab n g
 unfolding tab
 tab-same f g zero h = refl

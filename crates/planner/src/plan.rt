@@ -8,7 +8,7 @@ use ledger::layout;
 use refusals::Answer;
 use refusals::Finding;
 ghost use mathlib.Core.Path.{_≡_};
-ghost use mathlib.Core.Bool.{_&&_, _||_};
+ghost use mathlib.Core.Bool.{_&&_};
 ghost use Prim.Native.Nat.{ℕ, _≤_, _<_};
 ghost use lib.ListN.{length};
 ghost use lib.Dec.{ltb};
@@ -17,7 +17,7 @@ ghost use Rattle.ledger.specs.State.{stateOf, versionsIn};
 ghost use Rattle.ledger.specs.Gate.{txAt};
 ghost use Rattle.ledger.specs.Inner.{Batch, TicketsOf};
 ghost use Rattle.planner.specs.Ranks.{Differ, Planned};
-ghost use Rattle.planning.specs.Plan.{current, planned, planBatch};
+ghost use Rattle.planning.specs.Plan.{current, shortLists, planned, planBatch};
 
 // Rule 1: the current ones of the first `m` pages, as a set.
 fn current(batch: &[u8], blocks: &[u32], places: &[u16], m: usize) -> u64
@@ -42,7 +42,7 @@ fn current(batch: &[u8], blocks: &[u32], places: &[u16], m: usize) -> u64
 
 // 14: whether the verdicts or the order are shorter than `m`.
 pub fn lists_short(verdicts: &[u8], order: &[u8], m: usize) -> bool
-    ensures { λ r. ⌜ r ≡ (ltb (length (now (verdicts .entry))) m || ltb (length (now (order .entry))) m) ⌝ }
+    ensures { λ r. ⌜ r ≡ shortLists m (now (verdicts .entry)) (now (order .entry)) ⌝ }
 {
     verdicts.len() < m || order.len() < m
 }

@@ -1,15 +1,14 @@
 -- The joined call: what it comes to where the gate finds a fault, and where it finds none. Assumes nothing.
 use mathlib.Core.Path.{_≡_, refl, sym, ap, _∙_}
-use mathlib.Core.Bool.{Bool, true, false, _||_}
+use mathlib.Core.Bool.{_||_}
 use mathlib.Core.List.{List, [], _∷_, _++_, map}
 use Prim.Native.Nat.{ℕ, _*_, _≤_, _<_}
 use native.Mathlib.Omega.{arith}
 use borrow.Author.Tests.{le-ltb}
-use lib.Dec.{ltb}
 use lib.ListN.{length, take, drop, replicate, length-replicate}
-use lib.Seq.{take-at}
 use Rattle.lists.specs.Members.{_∈_}
 use Rattle.lists.specs.Tables.{filled, tab}
+use Rattle.lists.proofs.Tests.{or-false}
 use Rattle.refusals.specs.Outcome.{Outcome, gives, refuses}
 use Rattle.refusals.specs.Fault.{Fault, clear, fault, Row, first, judged, after}
 use Rattle.refusals.proofs.Rows.{row-none}
@@ -19,18 +18,14 @@ use Rattle.ledger.specs.Commit.{Commits, commit, commitBatch}
 use Rattle.ledger.specs.Inner.{applied}
 use Rattle.ledger.proofs.Commits.{commit-open}
 use Rattle.ledger.proofs.Gated.{Through, gateFault, gate-front, gate-open}
-use Rattle.planning.specs.Plan.{sequence, verdict, order, gathered, Plans, plans, planBatch}
+use Rattle.planning.specs.Plan.{sequence, verdict, order, gathered, Plans, plans, shortLists, planBatch}
 use Rattle.planning.specs.Joined.{Joined, settled, planAndCommit}
 use Rattle.planning.proofs.Few.{order-short}
 use Rattle.planning.proofs.Kept.{sequence-perm, own-order, order-below, order-current, order-distinct}
 use Rattle.planning.proofs.Opened.{none-shorter, plan-refused, plan-open}
 use Rattle.planning.proofs.Opened.{own as asked}
 use Rattle.planning.proofs.Passing.{passing, commit-applied}
-use Rattle.planning.proofs.OutBatch.{gathered-whole, gathered-txs, gathered-open}
-
-or-nothing : (a b : Bool) → b ≡ false → (a || b) ≡ a
-or-nothing true b e = refl
-or-nothing false b e = e
+use Rattle.planning.proofs.OutBatch.{out-front, gathered-txs, gathered-open}
 
 module _ (batch : List ℕ) (s : State) (n : ℕ) (vs os : List ℕ) where
   -- an out batch that is long enough
@@ -43,7 +38,7 @@ module _ (batch : List ℕ) (s : State) (n : ℕ) (vs os : List ℕ) where
 
   -- the rows of the joined call's own: "without the out batch in 14"
   abbrev pub own : List Row
-  own = lentRow (ltb (length vs) (pages batch) || ltb (length os) (pages batch)) ∷ []
+  own = lentRow (shortLists (pages batch) vs os) ∷ []
 
   -- plan asks the same, with any out batch that is long enough once the front is clear
   pub as-plan : (out : List ℕ) → (first (frontRows batch s n) ≡ clear → 512 * pages batch ≤ length out)
@@ -51,7 +46,7 @@ module _ (batch : List ℕ) (s : State) (n : ℕ) (vs os : List ℕ) where
   as-plan out long = go (first (frontRows batch s n)) refl
     where
       go : (f : Fault) → first (frontRows batch s n) ≡ f → gateFault own batch s n ≡ gateFault (asked batch s n vs os out) batch s n
-      go clear e = ap (λ b. gateFault (lentRow b ∷ []) batch s n) (sym (or-nothing _ _ (le-ltb (length out) (512 * pages batch) (long e))))
+      go clear e = ap (λ b. gateFault (lentRow b ∷ []) batch s n) (sym (ap (λ b. shortLists (pages batch) vs os || b) (le-ltb (length out) (512 * pages batch) (long e)) ∙ or-false _))
       go (fault a b) e = gate-front own batch s n e ∙ sym (gate-front (asked batch s n vs os out) batch s n e)
 
   as-room : gateFault own batch s n ≡ gateFault (asked batch s n vs os room) batch s n
@@ -105,8 +100,7 @@ module _ (batch : List ℕ) (s : State) (n : ℕ) (vs os : List ℕ) where
     commits-kept out ws long =
         let whole = through .ready .whole in
         let few = order-short (versions s) (txAt batch) (pages batch) in
-        let front = take-at (gathered batch o) (drop (512 * length o) out) (512 * length o) (omega (arith, gathered-whole batch (pages batch) whole o inside)) in
-        ap (λ b. commitBatch b s n ws .state) front
+        ap (λ b. commitBatch b s n ws .state) (out-front batch (pages batch) whole o inside out)
         ∙ ap (λ (c : Commits). c .state)
         (commit-open (gathered batch o) s n ws
         (gathered-open own batch s n e through o (order-distinct (versions s) (txAt batch) (pages batch) _ (sequence-perm (versions s) (txAt batch) (pages batch))) inside ws (omega (arith, few, through .ready .few)) long))

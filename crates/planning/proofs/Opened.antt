@@ -13,7 +13,7 @@ use Rattle.refusals.proofs.Rows.{judged-gives, row-none}
 use Rattle.ledger.specs.State.{State, versions}
 use Rattle.ledger.specs.Gate.{pages, txAt, lentRow}
 use Rattle.ledger.proofs.Faults.{or-none}
-use Rattle.planning.specs.Plan.{sequence, order, plans, short, planBatch}
+use Rattle.planning.specs.Plan.{sequence, order, plans, shortLists, short, planBatch}
 use Rattle.ledger.proofs.Gated.{gateFault}
 
 -- two lists of which none is shorter than m
@@ -42,7 +42,7 @@ module _ (batch : List ℕ) (s : State) (n : ℕ) (vs os out : List ℕ) where
   -- what 14 asks
   pub not-short : first own ≡ clear → (pages batch ≤ length vs) × (pages batch ≤ length os) × (pages batch * 512 ≤ length out)
   not-short e =
-      let a = or-none (ltb (length vs) (pages batch) || ltb (length os) (pages batch)) _ (row-none (lentRow (short batch vs os out)) [] e .0) in
+      let a = or-none (shortLists (pages batch) vs os) _ (row-none (lentRow (short batch vs os out)) [] e .0) in
       let l = none-shorter (length vs) (length os) (pages batch) (a .0) in
       let z = ltb-false (length out) (512 * pages batch) (a .1) in
       (l .0, l .1, omega arith)

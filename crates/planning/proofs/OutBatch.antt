@@ -62,6 +62,12 @@ module _ (batch : List ℕ) (m : ℕ) (whole : length batch ≡ m * 512) where
   pub gathered-whole : (is : List ℕ) → ((i : ℕ) → i ∈ is → i < m) → length (gathered batch is) ≡ length is * 512
   gathered-whole is f = gathered-long batch is (λ i k. omega (arith, f i k))
 
+  -- the front of an out batch that was filled with them
+  pub out-front : (is : List ℕ) → ((i : ℕ) → i ∈ is → i < m) → (out : List ℕ)
+      → take (512 * length is) (gathered batch is ++ drop (512 * length is) out) ≡ gathered batch is
+  out-front is f out =
+      take-at (gathered batch is) (drop (512 * length is) out) (512 * length is) (omega (arith, gathered-whole is f))
+
   gathered-page : (is : List ℕ) → ((i : ℕ) → i ∈ is → i < m) → (j : ℕ) → j < length is → pageAt (gathered batch is) j ≡ pageAt batch (getD is j 0)
   unfolding gathered
   gathered-page [] f j h = absurd (omega arith)

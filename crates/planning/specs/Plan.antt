@@ -78,9 +78,13 @@ plans batch held seq vs os out =
       out = gathered batch o ++ drop (512 * length o) out;
     }
 
+-- "verdicts or order shorter than m"
+abbrev pub shortLists : ℕ → List ℕ → List ℕ → Bool
+shortLists m vs os = ltb (length vs) m || ltb (length os) m
+
 -- "14: verdicts or order shorter than m, or out batch shorter than 512m"
 abbrev pub short : List ℕ → List ℕ → List ℕ → List ℕ → Bool
-short batch vs os out = ltb (length vs) (pages batch) || ltb (length os) (pages batch) || ltb (length out) (512 * pages batch)
+short batch vs os out = shortLists (pages batch) vs os || ltb (length out) (512 * pages batch)
 
 abbrev pub planRows : List ℕ → State → ℕ → List ℕ → List ℕ → List ℕ → List Row
 planRows batch s n vs os out = gateRows (lentRow (short batch vs os out) ∷ []) batch s n

@@ -25,7 +25,8 @@
  *  10 | spare byte not zero                                                | lowest spare byte that is not zero
  *  11 | batch over 32768 bytes or no multiple of 512                       | 0
  *  12 | state lists unequal, empty or over 1024                            | 0
- *  13 | state entry of another form, or present with block not below n     | lowest key
+ *  13 | state entry of another form, or present or deleted with block not  | lowest key
+ *     | below n                                                            |
  *  14 | verdicts or order shorter than m, or out batch shorter than 512m,  | 0
  *     | each where it is lent                                              |
  *  15 | ticket already on an earlier page                                  | lowest such page
@@ -41,9 +42,11 @@
  * A service on a batch gives 512 times the page plus the byte: 1564 is byte 28 of page 3.
  *
  * The forms that the table speaks of:
- *   version of a read   absent, which is block 0 and place 65535; or any block with a place of 0 to 63
- *   state entry         absent, which is block 0, place 65535 and value 0; or present: any block below n with a place
- *                       of 0 to 63, and any value. Block 4 with place 65535 is neither, nor is absent with a value.
+ *   version of a read   of a present key: any block with a place of 0 to 63; of a deleted one: any block with a place of
+ *                       32768 to 32831; of an absent one, which was never written: block 0 and place 65535
+ *   state entry         present: any block below n with a place of 0 to 63, and any value; deleted: any block below n
+ *                       with a place of 32768 to 32831, and value 0; absent: block 0, place 65535 and value 0.
+ *                       Block 4 with place 65535 is none of them, nor is place 64, 32767 or 32832.
  *   text                an optional minus, whole tonnes without needless leading zeros (a lone 0 is needed), a comma,
  *                       exactly three digits, and nothing else. "-0,000" is no figure. "68,400" and "-0,050" are of the
  *                       form; "684", "68,4", "068,400", ",400", "+1,000" and "" are not.
@@ -77,11 +80,19 @@ extern "C" {
 #define NEVOLISCA_ENTRIES 32
 #define NEVOLISCA_TEXT 21
 
+/* Places of versions. A put by the page at place i leaves place i, a delete i + NEVOLISCA_DELETED; a key never written has
+ * block 0 and place NEVOLISCA_ABSENT. Which of the three a key of the state is can be told from its place.
+ */
+#define NEVOLISCA_DELETED 32768
+#define NEVOLISCA_ABSENT 65535
+#define NEVOLISCA_IS_PRESENT(place) ((place) < 64)
+
 /* A transaction is lent as a head and six arrays.
  *   head         the number of reads r, the number of writes w, the ticket
  *   read_keys, read_places, read_blocks       read i: its key, and the place and block of the version it names
  *   write_keys, write_kinds, write_values     write i: its key, its kind (0 puts, 1 deletes), its value
- * A version that is absent is block 0, place 65535. Entries beyond r and w count for nothing.
+ * A key never written is read at block 0, place 65535, a deleted one at the block and place that its delete left: a read
+ * that names the one does not pass on the other. Entries beyond r and w count for nothing.
  */
 
 /* Reads the page of len bytes.
@@ -102,14 +113,15 @@ uint64_t nevolisca_write_page(uint8_t *batch, size_t len, size_t index,
                               const uint16_t read_keys[32], const uint16_t read_places[32], const uint32_t read_blocks[32],
                               const uint16_t write_keys[32], const uint16_t write_kinds[32], const int64_t write_values[32]);
 
-/* The state is three lists of one length K, 1 to 1024: key k is entry k of blocks, places and values. Every present entry has
- * a block below n.
+/* The state is three lists of one length K, 1 to 1024: key k is entry k of blocks, places and values. Every entry that is
+ * not absent has a block below n.
  *
  * The ordinary batch: plans a batch of m pages under the number n and commits the kept ones, in one call.
  * Lent: batch, n, and the state. Filled:
  *   verdicts                 the first m: 0 kept, 1 stale, 2 cycle
  *   order                    the first k: the page indexes of the kept, in schedule order
- *   blocks, places, values   the state after the kept pages, in that order; the page at place p of it writes version (n, p)
+ *   blocks, places, values   the state after the kept pages, in that order; the page at place p of it leaves version (n, p)
+ *                            where it puts, and (n, p + 32768) and value 0 where it deletes, also on an absent key
  * Further entries stay. All is as nevolisca_plan and then nevolisca_commit of the first 512k bytes of its out batch leave it;
  * no out batch is lent, and no page is copied. None of the kept fails.
  * Returns k, the kept count, or the first refusal, in the order of nevolisca_plan; 14 asks for verdicts and order only.
@@ -141,7 +153,8 @@ uint64_t nevolisca_plan(const uint8_t *batch, size_t len,
 
 /* Commits a batch of m pages to a state under the number n.
  * Lent: batch, n, and the state. Filled:
- *   blocks, places, values   the state after the passing pages; the page at index i writes version (n, i)
+ *   blocks, places, values   the state after the passing pages; the page at index i leaves version (n, i) where it puts,
+ *                            and (n, i + 32768) and value 0 where it deletes, also on an absent key
  *   verdicts                 the first m: 0 passes, 3 fails; further entries stay
  * Returns the number of passing pages, or the first refusal, in the order of nevolisca_plan; 14 asks for verdicts only.
  */

@@ -16,8 +16,8 @@ BELIEVED = {
     "tonnage texts": "tonnage/Text tonnage/Services",
     "the listing": "report/Listing report/Program",
     "the services for C": "node/Word node/Lent",
-    "the demands as statements": "claims/Serial claims/Third claims/Joined tonnage/Grammar ledger/Byte claims/Programs claims/Cases "
-    "claims/Shown claims/Letter",
+    "the demands as statements": "claims/Serial claims/Third claims/Joined claims/Closed claims/Clerk tonnage/Grammar ledger/Byte "
+    "claims/Programs claims/Cases claims/Shown claims/Letter",
 }
 INNER = {
     "inner: what only contracts between functions say": "octets/Columns ledger/Inner ledger/Good orders/Walk sets/Set "

@@ -1,7 +1,7 @@
 #!/usr/bin/env python3
 """tools/pages.py NAME > FILE: writes the standard input of a run of the listing program, from document 01's page layout.
 
-NAME is listing, refused, byte, empty, too_long or correction. The expected listings stand in crates/listing/stdout and tests/listing/NAME/stdout.
+NAME is listing, refused, byte, empty, too_long, correction or closed. The expected listings stand in crates/listing/stdout and tests/listing/NAME/stdout.
 """
 import sys
 
@@ -14,11 +14,12 @@ def sealed(front):
     return front + sum((i + 1) * x for i, x in enumerate(front)).to_bytes(4, "little")
 
 
-def page(ticket, reads=(), puts=()):
-    """A page: reads are (key, (block, place)), puts are (key, kilograms)."""
-    head = bytes([0x54, len(reads), len(puts), 0]) + ticket.to_bytes(4, "little")
+def page(ticket, reads=(), puts=(), deletes=()):
+    """A page: reads are (key, (block, place)), puts are (key, kilograms), deletes are keys; the writes stand by their keys."""
+    writes = sorted([(k, 0, v) for k, v in puts] + [(k, 1, 0) for k in deletes])
+    head = bytes([0x54, len(reads), len(writes), 0]) + ticket.to_bytes(4, "little")
     body = b"".join(k.to_bytes(2, "little") + p.to_bytes(2, "little") + b.to_bytes(4, "little") for k, (b, p) in reads)
-    body += b"".join(k.to_bytes(2, "little") + bytes(2) + v.to_bytes(8, "little", signed=True) for k, v in puts)
+    body += b"".join(k.to_bytes(2, "little") + kind.to_bytes(2, "little") + v.to_bytes(8, "little", signed=True) for k, kind, v in writes)
     return sealed(head + body)
 
 
@@ -85,7 +86,49 @@ def correction():
     ]
 
 
-RUNS = {"listing": listing, "refused": refused, "byte": byte, "empty": list, "too_long": too_long, "correction": correction}
+def closed():
+    """Lots that are closed: by E3 a delete leaves a version, and the listing shows present keys only.
+
+    Keys 3 to 8 are lots. Every key is absent at the start.
+
+    Page 0, ticket 50, closes the lot of key 5 and puts 0,100 t on key 6.
+    Page 1, ticket 40, puts 1,000 t on key 5 and closes the lot of key 6.
+    Page 2, ticket 10, puts 68,400 t on key 3.
+    Page 3, ticket 20, closes the lot of key 4, which was never opened.
+    Page 4, ticket 30, reads key 4 as absent and puts -0,050 t on key 7.
+    Page 5, ticket 60, reads key 4 as the deleted version of block 1, place 2, and puts 0,001 t on key 8.
+
+    By the rules, by hand:
+    Rule 1: key 4 is absent at the start, so page 4 is current. Page 5 names what this batch will leave on key 4, not what it
+            has at the start: stale. The others read nothing.
+    Rule 2: page 4 reads 4, which page 3 deletes: 4 before 3. Pages 0 and 1 write the same two keys, which makes no demand.
+    Rule 3: one demand alone makes no cycle, so pages 0 to 4 are kept.
+    Rule 4: ticket 10 (page 2) has place 0. Ticket 20 (page 3) has to wait for page 4, so ticket 30 (page 4) has place 1, and
+            then ticket 20 has place 2. Ticket 40 (page 1) has place 3, ticket 50 (page 0) has place 4.
+    Commit under n 1: page 2 puts 68400 kg at (1, 0) on key 3. Page 4 still finds key 4 absent, and puts -50 kg at (1, 1) on
+            key 7. Page 3 leaves (1, 32770) on key 4. Page 1 puts 1000 kg at (1, 3) on key 5 and leaves (1, 32771) on key 6.
+            Page 0 leaves (1, 32772) on key 5 and puts 100 kg at (1, 4) on key 6.
+    Keys 4 and 5 are deleted and not shown; key 6 was deleted and is present again; key 8 stays absent.
+    """
+    return [
+        page(50, puts=[(6, 100)], deletes=[5]),
+        page(40, puts=[(5, 1000)], deletes=[6]),
+        page(10, puts=[(3, 68400)]),
+        page(20, deletes=[4]),
+        page(30, reads=[(4, ABSENT)], puts=[(7, -50)]),
+        page(60, reads=[(4, (1, 32770))], puts=[(8, 1)]),
+    ]
+
+
+RUNS = {
+    "listing": listing,
+    "refused": refused,
+    "byte": byte,
+    "empty": list,
+    "too_long": too_long,
+    "correction": correction,
+    "closed": closed,
+}
 
 if __name__ == "__main__":
     if len(sys.argv) != 2 or sys.argv[1] not in RUNS:

@@ -7,10 +7,10 @@ An edit has the form of one in must-fail/ (file:, old:, new:) and one line more:
 
     by: page/check/first_key/Proof.antt loop-again
 
-the declaration, below the crate's proofs/, whose proof must be the first that fails. The crate is checked once as it is,
-then with each edit, in a copy and over an incremental folder: an edit costs seconds and not a check of its whole crate.
-The copy takes what is proved already from target/; run `rt check` before, or it is proved there. A few edits at a time have
-a copy of that copy, so that the edits of one crate are tried side by side.
+the declaration, below the crate's proofs/, whose proof must be the first that fails. In old: and new: `\\n` is the end of
+a line. The crate is checked once as it is, then with each edit, in a copy and over an incremental folder: an edit costs
+seconds and not a check of its whole crate. The copy takes what is proved already from target/; run `rt check` before, or
+it is proved there. A few edits at a time have a copy of that copy, so that the edits of one crate are tried side by side.
 """
 import concurrent.futures
 import pathlib
@@ -31,7 +31,7 @@ def parse(edit):
     file = old = by = None
     pairs = []
     for line in edit.read_text().splitlines():
-        word, _, rest = line.partition(": ")
+        word, _, rest = line.replace("\\n", "\n").partition(": ")
         if word == "file":
             file = rest
         elif word == "old":

@@ -1,5 +1,5 @@
-//! Document 01's own worked cases and the offsets of document 02's E1, asked of both opinions; where a case speaks of
-//! planning, of the joined call too.
+//! Document 01's own worked cases, the offsets of document 02's E1 and the deleted keys of its E3, asked of both opinions;
+//! where a case speaks of planning, of the joined call too.
 #![forbid(unsafe_code)]
 
 use nevolisca_bench::answer::{Answer, Refusal};
@@ -20,11 +20,24 @@ fn put(key: u16, value: i64) -> Write {
     }
 }
 
+fn delete(key: u16) -> Write {
+    Write {
+        key,
+        kind: 1,
+        value: 0,
+    }
+}
+
 fn read(key: u16) -> Read {
     Read {
         key,
         version: ABSENT,
     }
+}
+
+fn read_at(key: u16, block: u32, place: u16) -> Read {
+    let version = Version { block, place };
+    Read { key, version }
 }
 
 fn transaction(ticket: u32, reads: &[Read], writes: &[Write]) -> Transaction {
@@ -226,6 +239,7 @@ fn the_byte_of_each_fault() {
         (&[(1, 32), (2, 32)], 5, 1),
         (&[(9, 4)], 6, 8),
         (&[(10, 64)], 7, 10),
+        (&[(10, 64), (11, 128)], 7, 10),
         (&[(28, 5)], 8, 28),
         (&[(16, 6)], 8, 28),
         (&[(30, 2)], 9, 30),
@@ -361,6 +375,92 @@ fn a_stale_page_is_not_in_the_order_and_uses_up_no_place() {
     assert_eq!((answer, verdicts, order), (Ok(1), vec![1, 0], vec![1, 9]));
     assert_eq!(after.entry(1), (0, 65535, 0));
     assert_eq!(after.entry(2), (7, 0, 2));
+}
+
+/// Key 2 of 4 is opened by the page at place 0 of block 1 and closed by the one at place 1 of block 2; the number is 3.
+fn closed_lot() -> Ledger {
+    let (_, _, mut ledger) = commit(&pages(&[(1, &[], &[put(2, 68400)])]), &Ledger::absent(4, 1));
+    assert_eq!(ledger.entry(2), (1, 0, 68400));
+    ledger.n = 2;
+    let close: &[Read] = &[read_at(2, 1, 0)];
+    let (_, _, mut ledger) = commit(&pages(&[(1, &[], &[]), (2, close, &[delete(2)])]), &ledger);
+    ledger.n = 3;
+    ledger
+}
+
+#[test]
+fn a_closed_lot_is_not_a_lot_that_never_was() {
+    let ledger = closed_lot();
+    assert_eq!(ledger.entry(2), (2, 32769, 0));
+    let closed = Version::deleted(2, 1);
+    assert_eq!((closed.block, closed.place), (2, 32769));
+    for (read, kept) in [
+        (read(2), false),
+        (read_at(2, 1, 0), false),
+        (read_at(2, 2, 1), false),
+        (read_at(2, 1, 32769), false),
+        (read_at(2, 2, 32768), false),
+        (read_at(2, 2, 32769), true),
+        (read(3), true),
+        (read_at(3, 0, 32768), false),
+        (read_at(3, 0, 0), false),
+    ] {
+        let batch = pages(&[(9, &[read], &[put(1, 5)])]);
+        let (count, stale, fails) = if kept { (1, 0, 0) } else { (0, 1, 3) };
+        let (answer, verdicts, _, _) = plan(&batch, &ledger);
+        assert_eq!((answer, verdicts), (Ok(count), vec![stale]), "{read:?}");
+        let (answer, verdicts, committed) = commit(&batch, &ledger);
+        assert_eq!((answer, verdicts), (Ok(count), vec![fails]), "{read:?}");
+        let (answer, verdicts, _, after) = plan_and_commit(&batch, &ledger);
+        assert_eq!((answer, verdicts), (Ok(count), vec![stale]), "{read:?}");
+        assert_eq!((&after, after == ledger), (&committed, !kept));
+    }
+}
+
+#[test]
+fn a_delete_leaves_its_version_on_an_absent_a_deleted_and_a_present_key() {
+    let mut ledger = closed_lot();
+    (ledger.blocks[0], ledger.places[0], ledger.values[0]) = (2, 63, -50);
+    let all = [delete(0), delete(2), delete(3)];
+    let batch = pages(&[(7, &[], &[]), (8, &[], &[]), (9, &[], &all)]);
+    let (_, _, committed) = commit(&batch, &ledger);
+    let (_, _, _, after) = plan_and_commit(&batch, &ledger);
+    assert_eq!(after, committed);
+    for key in [0, 2, 3] {
+        assert_eq!(after.entry(key), (3, 32770, 0));
+    }
+    assert_eq!(after.entry(1), (0, 65535, 0));
+}
+
+#[test]
+fn the_place_in_the_order_is_the_place_of_a_delete() {
+    let batch = pages(&[(1, &[], &[delete(1)]), (2, &[read(1)], &[])]);
+    let ledger = Ledger::absent(4, 7);
+    let (_, verdicts, after) = commit(&batch, &ledger);
+    assert_eq!((verdicts, after.entry(1)), (vec![0, 3], (7, 32768, 0)));
+    let (_, verdicts, order, after) = plan_and_commit(&batch, &ledger);
+    assert_eq!((verdicts, order), (vec![0, 0], vec![1, 0]));
+    assert_eq!(after.entry(1), (7, 32769, 0));
+}
+
+#[test]
+fn the_forms_of_a_deleted_key() {
+    let named = |block, place| page(1, &[read_at(5, block, place)], &[]).map(|_| 0);
+    for (place, good) in [(32767, false), (32768, true), (32831, true), (32832, false)] {
+        for block in [0, 4, u32::MAX] {
+            let due = if good { Ok(0) } else { refused(7, 10) };
+            assert_eq!(named(block, place), due);
+        }
+        for (block, value) in [(4, 0), (4, 1), (5, 0), (6, 0)] {
+            let mut ledger = Ledger::absent(3, 5);
+            (ledger.blocks[1], ledger.places[1], ledger.values[1]) = (block, place, value);
+            let taken = good && (block, value) == (4, 0);
+            let due = if taken { Ok(0) } else { refused(13, 1) };
+            assert_eq!(plan(&[], &ledger).0, due);
+            assert_eq!(commit(&[], &ledger).0, due);
+            assert_eq!(plan_and_commit(&[], &ledger).0, due);
+        }
+    }
 }
 
 #[test]

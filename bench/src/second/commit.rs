@@ -26,19 +26,18 @@ pub fn commit(batch: &[u8], mut state: StateMut<'_>, n: u32, verdicts: &mut [u8]
     Ok(passing)
 }
 
-/// What a passing page does to the state under n, from its place: puts set value and version, deletes make absent.
+/// What a passing page does to the state under n, from its place: puts leave value and version, deletes value 0 and a
+/// deleted version.
 /// Inlined: as a call for each page it makes the commit of full pages about 8 % slower.
 #[inline(always)]
 pub(super) fn write_entries(page: &Page<'_>, state: &mut StateMut<'_>, n: u32, place: usize) {
-    let version = Version {
-        block: n,
-        place: place as u16,
-    };
+    let (block, place) = (n, place as u16);
+    let (present, deleted) = (Version { block, place }, Version::deleted(block, place));
     for write in page.writes() {
         if write.deletes() {
-            state.set(write.key, Version::ABSENT, 0);
+            state.set(write.key, deleted, 0);
         } else {
-            state.set(write.key, version, write.value);
+            state.set(write.key, present, write.value);
         }
     }
 }

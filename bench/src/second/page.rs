@@ -39,7 +39,7 @@ pub struct Write {
 }
 
 impl Write {
-    /// Whether it makes the key absent.
+    /// Whether it leaves its key deleted.
     pub fn deletes(&self) -> bool {
         self.kind == DELETE
     }

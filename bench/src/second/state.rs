@@ -5,8 +5,10 @@ use crate::answer::Refusal;
 
 /// The most keys that a state has.
 pub const MOST_KEYS: usize = 1024;
-/// The highest place of a version that is not absent.
-const LAST_PLACE: u16 = 63;
+/// How many places a block has, from 0 on.
+const PLACES: u16 = 64;
+/// What a delete adds to its page's place, so that its version is that of no put.
+const DELETED: u16 = 32768;
 
 /// Which transaction wrote an entry: a block number and a place in the block.
 #[derive(Clone, Copy, Debug, PartialEq, Eq, Default)]
@@ -16,15 +18,38 @@ pub struct Version {
 }
 
 impl Version {
-    /// The version of a key that is not there.
+    /// The version of a key never written.
     pub const ABSENT: Version = Version {
         block: 0,
         place: 65535,
     };
 
-    /// Absent, or a place of 0 to 63.
+    /// The version of a key that was deleted last, by the page at a place of 0 to 63 of a block.
+    pub fn deleted(block: u32, place: u16) -> Self {
+        Version {
+            block,
+            place: place + DELETED,
+        }
+    }
+
+    /// Whether its key was put last: a place of 0 to 63.
+    pub fn is_present(self) -> bool {
+        self.place < PLACES
+    }
+
+    /// Whether its key was deleted last: a place of 32768 to 32831.
+    pub fn is_deleted(self) -> bool {
+        (DELETED..DELETED + PLACES).contains(&self.place)
+    }
+
+    /// Whether its key was never written.
+    pub fn is_absent(self) -> bool {
+        self == Version::ABSENT
+    }
+
+    /// Present, deleted or absent.
     pub fn has_form(self) -> bool {
-        self.place <= LAST_PLACE || self == Version::ABSENT
+        self.is_present() || self.is_deleted() || self.is_absent()
     }
 }
 
@@ -66,21 +91,25 @@ impl State<'_> {
         }
         let versions = self.blocks.iter().zip(self.places);
         let mut entries = versions.zip(self.values);
-        match entries.position(|((&block, &place), &value)| !entry_has_form(block, place, value, n))
-        {
+        let wrong = |((&block, &place), &value)| {
+            let version = Version { block, place };
+            !entry_has_form(version, value, n)
+        };
+        match entries.position(wrong) {
             Some(key) => Err(Reason::StateEntry.at(key)),
             None => Ok(()),
         }
     }
 }
 
-/// Absent with value 0, or present with a block below n.
-fn entry_has_form(block: u32, place: u16, value: i64, n: u32) -> bool {
-    let version = Version { block, place };
-    if version == Version::ABSENT {
-        value == 0
+/// Present or deleted with a block below n, or absent; and value 0 unless present.
+fn entry_has_form(version: Version, value: i64, n: u32) -> bool {
+    if version.is_present() {
+        version.block < n
+    } else if version.is_deleted() {
+        version.block < n && value == 0
     } else {
-        version.has_form() && block < n
+        version.is_absent() && value == 0
     }
 }
 

@@ -3,7 +3,7 @@
 use crate::cases::{Commit, Lists, Plan};
 use crate::joined::PlanAndCommit;
 use crate::outcome::Case;
-use crate::pages::{lay, mend, spoil, value_of, version, EDGE_BLOCKS};
+use crate::pages::{lay, mend, spoil, value_of, version, EDGE_BLOCKS, EDGE_VALUES};
 use crate::tally::Tally;
 use nevolisca_bench::random::Random;
 use nevolisca_bench::second::{Read, Version, Write, PAGE};
@@ -12,23 +12,31 @@ const MOST_PAGES: usize = 64;
 const MOST_KEYS: usize = 1024;
 const TICKET: std::ops::Range<usize> = 4..8;
 
-/// A good state of K keys under n: present entries have a block below n.
+/// Places on both sides of the edges of a state's entries.
+const STATE_PLACES: [u16; 8] = [63, 64, 32767, 32768, 32831, 32832, 65534, 65535];
+
+/// A good state of K keys under n, all absent where no block is below n.
 fn state_of(random: &mut Random, keys: usize, n: u32) -> Lists {
-    let mut state = Lists {
-        blocks: vec![Version::ABSENT.block; keys],
-        places: vec![Version::ABSENT.place; keys],
-        values: vec![0; keys],
-        n,
-    };
-    for key in 0..keys {
-        if n > 0 && !random.once_in(3) {
-            let low = random.below(n as usize) as u32;
-            state.blocks[key] = random.pick(&[0, n - 1, low]);
-            state.places[key] = random.pick(&[0, 63, random.clone().below(64) as u16]);
-            state.values[key] = value_of(random, 0);
+    let mut state = Lists::absent(keys, n);
+    for key in 0..keys as u16 {
+        if n > 0 {
+            let (version, value) = some_entry(random, n);
+            state.view_mut().set(key, version, value);
         }
     }
     state
+}
+
+/// An absent, deleted or present entry that can stand under n, which is not 0.
+fn some_entry(random: &mut Random, n: u32) -> (Version, i64) {
+    let (low, any) = (random.below(n as usize) as u32, random.below(64) as u16);
+    let block = random.pick(&[0, n - 1, low]);
+    let place = random.pick(&[0, 63, any]);
+    match random.below(3) {
+        0 => (Version::ABSENT, 0),
+        1 => (Version::deleted(block, place), 0),
+        _ => (Version { block, place }, value_of(random, 0)),
+    }
 }
 
 /// A good state of some size under some n.
@@ -47,18 +55,33 @@ fn spoil_state(random: &mut Random, state: &mut Lists) {
         return;
     }
     let key = random.below(shortest);
-    match random.below(8) {
+    match random.below(10) {
         0 => state.blocks.push(0),
         1 => drop(state.places.pop()),
         2 => state.values.push(0),
         3 => resize_state(random, state),
         4 => {
-            state.places[key] = random.pick(&[63, 64, 65534, 65535]);
+            state.places[key] = random.pick(&STATE_PLACES);
             state.blocks[key] = random.pick(&EDGE_BLOCKS);
         }
         5 => state.blocks[key] = random.pick(&[state.n, state.n.wrapping_add(1), u32::MAX]),
         6 => state.values[key] = 1,
-        _ => state.places[key] = random.pick(&[63, 64, 65534, 65535]),
+        7 => state.places[key] = random.pick(&STATE_PLACES),
+        _ => spoil_deleted(random, state, key),
+    }
+}
+
+/// A deleted key that is wrong in one way: with a value, with block n or one above, or with a place just outside.
+fn spoil_deleted(random: &mut Random, state: &mut Lists, key: usize) {
+    let n = state.n;
+    let version = Version::deleted(n.saturating_sub(1), random.pick(&[0, 1, 62, 63]));
+    state.view_mut().set(key as u16, version, 0);
+    match random.below(5) {
+        0 => state.values[key] = random.pick(&EDGE_VALUES[1..]),
+        1 => state.blocks[key] = n,
+        2 => state.blocks[key] = random.pick(&[n.saturating_add(1), u32::MAX]),
+        3 => state.places[key] = 32767,
+        _ => state.places[key] = 32832,
     }
 }
 
@@ -118,12 +141,24 @@ fn some_reads(random: &mut Random, style: &Style, now: &[Version]) -> Vec<Read> 
     let mut read = |key: u16| Read {
         key,
         version: if random.once_in(style.wrong) {
-            version(random)
+            mistaken(random, now[usize::from(key)])
         } else {
             now[usize::from(key)]
         },
     };
     keys.into_iter().map(&mut read).collect()
+}
+
+/// What may be named for a key that has a version: absent, or deleted or present at the same block and place, each of
+/// which it may not be; or any version of the right form.
+fn mistaken(random: &mut Random, held: Version) -> Version {
+    let (block, place) = (held.block, held.place % 64);
+    match random.below(4) {
+        0 => Version::ABSENT,
+        1 => Version::deleted(block, place),
+        2 => Version { block, place },
+        _ => version(random),
+    }
 }
 
 fn some_writes(random: &mut Random, style: &Style) -> Vec<Write> {
@@ -137,15 +172,14 @@ fn some_writes(random: &mut Random, style: &Style) -> Vec<Write> {
     keys.into_iter().map(&mut write).collect()
 }
 
-/// The versions after a passing page.
+/// The versions after a passing page: of n and its place, to which a delete adds 32768.
 fn follow(now: &mut [Version], writes: &[Write], n: u32, place: usize) {
     for write in writes {
-        let written = Version {
+        let mark = if write.kind == 1 { 32768 } else { 0 };
+        now[usize::from(write.key)] = Version {
             block: n,
-            place: place as u16,
+            place: place as u16 + mark,
         };
-        let deleted = write.kind == 1;
-        now[usize::from(write.key)] = if deleted { Version::ABSENT } else { written };
     }
 }
 
@@ -296,12 +330,7 @@ fn small(sets: &[(u16, u16)], tickets: &[u32], keys: usize) -> Plan {
     let pages: Vec<Vec<u8>> = sets.iter().zip(tickets).map(page).collect();
     Plan {
         batch: pages.concat(),
-        state: Lists {
-            blocks: vec![Version::ABSENT.block; keys],
-            places: vec![Version::ABSENT.place; keys],
-            values: vec![0; keys],
-            n: 1,
-        },
+        state: Lists::absent(keys, 1),
         verdicts: vec![9; sets.len()],
         order: vec![9; sets.len()],
         out: vec![9; sets.len() * PAGE],

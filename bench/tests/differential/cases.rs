@@ -202,6 +202,16 @@ pub struct Lists {
 }
 
 impl Lists {
+    /// Keys never written, under n.
+    pub fn absent(keys: usize, n: u32) -> Self {
+        Lists {
+            blocks: vec![Version::ABSENT.block; keys],
+            places: vec![Version::ABSENT.place; keys],
+            values: vec![0; keys],
+            n,
+        }
+    }
+
     pub fn view(&self) -> State<'_> {
         State {
             blocks: &self.blocks,
@@ -296,6 +306,10 @@ impl Case for Plan {
         outcome
     }
 
+    fn on_state(&self) -> Option<(&[u8], &Lists)> {
+        Some((&self.batch, &self.state))
+    }
+
     fn by_second(&self) -> Outcome {
         let mut after = self.clone();
         let mut outcome = outcome(second::plan(
@@ -345,6 +359,10 @@ impl Case for Commit {
         take(&mut outcome, "batch", &batch);
         take(&mut outcome, "verdicts", &verdicts);
         outcome
+    }
+
+    fn on_state(&self) -> Option<(&[u8], &Lists)> {
+        Some((&self.batch, &self.state))
     }
 
     fn by_second(&self) -> Outcome {

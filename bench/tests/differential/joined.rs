@@ -65,6 +65,10 @@ impl Case for PlanAndCommit {
         outcome
     }
 
+    fn on_state(&self) -> Option<(&[u8], &Lists)> {
+        Some((&self.batch, &self.state))
+    }
+
     fn by_second(&self) -> Outcome {
         let mut after = self.clone();
         let mut outcome = outcome(second::plan_and_commit(

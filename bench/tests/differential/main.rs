@@ -3,16 +3,20 @@
 
 mod batches;
 mod cases;
+mod forms;
 mod guarded;
+mod histories;
 mod joined;
 mod noticed;
 mod outcome;
 mod pages;
 mod places;
+mod readings;
 mod spoiled;
 mod tally;
 mod texts;
 
+use histories::Seen;
 use nevolisca_bench::random::Random;
 use tally::Tally;
 
@@ -24,6 +28,7 @@ const READ_PAGES: usize = 60_000;
 const EACH_BYTE: usize = 12;
 const WRITE_PAGES: usize = 60_000;
 const BATCHES: usize = 30_000;
+const HISTORIES: usize = 1_500;
 const READ_TEXTS: usize = 200_000;
 const WRITE_TEXTS: usize = 40_000;
 
@@ -46,12 +51,16 @@ fn the_two_opinions_agree() {
     places::pages(&mut random, &mut Some(&mut tally));
     places::batches(&mut random, &mut Some(&mut tally));
     joined::short_lists(&mut Some(&mut tally));
+    forms::forms(&mut Some(&mut tally));
+    let seen = histories::histories(&mut random, &mut Some(&mut tally), HISTORIES);
     batches::all_of_three(&mut tally);
     batches::all_of_four(&mut tally);
     texts::all_short_texts(&mut tally);
     texts::read_texts(&mut random, &mut tally, READ_TEXTS);
     texts::write_texts(&mut random, &mut tally, WRITE_TEXTS);
     tally.print();
-    let faults = tally.faults();
+    seen.iter().for_each(Seen::print);
+    let mut faults = tally.faults();
+    faults.extend(seen.iter().flat_map(Seen::faults));
     assert!(faults.is_empty(), "{faults:#?}");
 }

@@ -1,5 +1,6 @@
 //! What a call leaves behind, and the comparison of two opinions on it.
 
+use crate::cases::Lists;
 use crate::guarded::{bytes_of, Entry, Guarded};
 use nevolisca_bench::answer::Answer;
 
@@ -47,6 +48,10 @@ pub trait Case: std::fmt::Debug {
     fn lent(&self) -> Lent;
     fn by_node(&self) -> Outcome;
     fn by_second(&self) -> Outcome;
+    /// The batch and the state that are lent, where the service takes them.
+    fn on_state(&self) -> Option<(&[u8], &Lists)> {
+        None
+    }
     /// What other proved calls leave that this one is to equal, where there are such.
     fn by_two_calls(&self) -> Option<Outcome> {
         None

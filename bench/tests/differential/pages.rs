@@ -25,7 +25,12 @@ const COUNTS: [(usize, usize); 10] = [
     (0, 1),
 ];
 const EDGE_KEYS: [u16; 8] = [0, 1, 1022, 1023, 1024, 1025, 32768, 65535];
-pub const EDGE_PLACES: [u16; 8] = [0, 1, 62, 63, 64, 65, 65534, 65535];
+/// Places of a present or a deleted version, then those of neither; the last is absent's, with block 0.
+pub const EDGE_PLACES: [u16; 12] = [
+    0, 1, 62, 63, 32768, 32831, 64, 65, 32767, 32832, 65534, 65535,
+];
+/// Where in them those of neither begin.
+pub const OF_NEITHER: usize = 6;
 pub const EDGE_BLOCKS: [u32; 5] = [0, 1, 4, 1 << 31, u32::MAX];
 pub const EDGE_KINDS: [u16; 6] = [0, 1, 2, 256, 257, 65535];
 pub const EDGE_VALUES: [i64; 7] = [0, 1, -1, 256, 1 << 56, i64::MIN, i64::MAX];
@@ -39,14 +44,15 @@ pub fn value_of(random: &mut Random, kind: u16) -> i64 {
     }
 }
 
-/// A version of the right form.
+/// A version of the right form: absent, deleted or present.
 pub fn version(random: &mut Random) -> Version {
-    if random.once_in(3) {
-        return Version::ABSENT;
-    }
-    Version {
-        block: random.pick(&[0, 1, 2, 7, u32::MAX, random.clone().word() as u32]),
-        place: random.pick(&[0, 1, 5, 62, 63]),
+    let any = random.word() as u32;
+    let block = random.pick(&[0, 1, 2, 7, u32::MAX, any]);
+    let place = random.pick(&[0, 1, 5, 62, 63]);
+    match random.below(3) {
+        0 => Version::ABSENT,
+        1 => Version::deleted(block, place),
+        _ => Version { block, place },
     }
 }
 

@@ -5,7 +5,7 @@ use crate::cases::{Commit, Lists, Plan, ReadPage, WritePage};
 use crate::joined::PlanAndCommit;
 use crate::outcome::Case;
 use crate::pages::{
-    entries, lay, mend, noise, transaction_of, EDGE_KINDS, EDGE_PLACES, EDGE_VALUES,
+    entries, lay, mend, noise, transaction_of, EDGE_KINDS, EDGE_PLACES, EDGE_VALUES, OF_NEITHER,
 };
 use crate::tally::Tally;
 use nevolisca_bench::answer::{Answer, Refusal};
@@ -109,7 +109,7 @@ fn spoil_entry(
         6 => spoil_key(random, reads, index, |read| &mut read.key),
         7 => {
             let version = &mut reads[index].version;
-            version.place = random.pick(&EDGE_PLACES[4..]);
+            version.place = random.pick(&EDGE_PLACES[OF_NEITHER..]);
             version.block = version.block.max(1);
         }
         8 => spoil_key(random, writes, index, |write| &mut write.key),
@@ -200,6 +200,19 @@ pub fn run<C: Case>(tally: &mut Option<&mut Tally>, case: &C, due: Answer) {
     }
 }
 
+/// The same by each service on a batch.
+pub fn run_batch(tally: &mut Option<&mut Tally>, plan: Plan, due: Answer) {
+    run(tally, &plan, due);
+    run(tally, &PlanAndCommit::from(&plan), due);
+    let (batch, state, verdicts) = (plan.batch, plan.state, plan.verdicts);
+    let commit = Commit {
+        batch,
+        state,
+        verdicts,
+    };
+    run(tally, &commit, due);
+}
+
 /// Each of 6 to 9 at each entry of every pair of counts, read and written; the others at each of their offsets, read.
 pub fn pages(random: &mut Random, tally: &mut Option<&mut Tally>) {
     for number in 6..=9 {
@@ -259,16 +272,7 @@ pub fn batches(random: &mut Random, tally: &mut Option<&mut Tally>) {
             let index = turn % MOST_PAGES;
             let bad = bad_page(random, number, at);
             let due = refused(number, PAGE * index + at);
-            let plan = batch_with(random, index, &bad);
-            run(tally, &plan, due);
-            run(tally, &PlanAndCommit::from(&plan), due);
-            let (batch, state, verdicts) = (plan.batch, plan.state, plan.verdicts);
-            let commit = Commit {
-                batch,
-                state,
-                verdicts,
-            };
-            run(tally, &commit, due);
+            run_batch(tally, batch_with(random, index, &bad), due);
         }
     }
 }

@@ -2,12 +2,15 @@
 
 use crate::outcome::{compare, Case, Service};
 use crate::places::{offsets, AT_A_BYTE, MOST_PAGES};
+use crate::readings::Readings;
+use nevolisca_bench::answer::Answer;
 use nevolisca_bench::second::PAGE;
 use std::collections::BTreeSet;
 use std::ops::RangeInclusive;
 
-/// The highest refusal number.
+/// The highest refusal number, and that of a state's entry.
 const LAST: usize = 20;
+const STATE_ENTRY: u32 = 13;
 
 const SERVICES: [(Service, &str); 7] = [
     (Service::ReadPage, "read page"),
@@ -51,6 +54,7 @@ pub struct Tally {
     counts: [[u64; LAST + 1]; SERVICES.len()],
     places: [[BTreeSet<usize>; LAST + 1]; SERVICES.len()],
     verdicts: [[u64; 4]; SERVICES.len()],
+    readings: [Readings; SERVICES.len()],
 }
 
 impl Tally {
@@ -75,6 +79,19 @@ impl Tally {
                 self.places[row][number].insert(refusal.place as usize);
             }
         }
+        self.count_readings(case, node.answer);
+    }
+
+    /// Counts the reads of a batch that is taken, or the entry for which a state is refused.
+    fn count_readings<C: Case>(&mut self, case: &C, answer: Answer) {
+        let readings = &mut self.readings[C::SERVICE as usize];
+        match (case.on_state(), answer) {
+            (Some((batch, state)), Ok(_)) => readings.count_reads(batch, state),
+            (Some((_, state)), Err(refusal)) if refusal.number == STATE_ENTRY => {
+                readings.count_entry(state, refusal.place as usize);
+            }
+            _ => {}
+        }
     }
 
     fn count_verdicts(&mut self, row: usize, lent: &crate::outcome::Lent) {
@@ -94,7 +111,8 @@ impl Tally {
         verdicts.map(move |&(verdict, word)| (word, row[verdict]))
     }
 
-    /// Prints the table, one line per service, each line with the same first word.
+    /// Prints the answers of each service, and the verdicts and readings of those on batches, each line with the same
+    /// first word.
     pub fn print(&self) {
         for (service, name) in SERVICES {
             let row = &self.counts[service as usize];
@@ -109,6 +127,9 @@ impl Tally {
             let counts = counts.map(|(word, count)| format!("{word} {count}"));
             let counts: Vec<String> = counts.collect();
             println!("answers: verdicts of {name}: {}", counts.join(", "));
+            let [reads, entries] = self.readings[service as usize].lines();
+            println!("answers: reads in {name}: {reads}");
+            println!("answers: deleted entries refused by {name}: {entries}");
         }
     }
 
@@ -144,6 +165,10 @@ impl Tally {
             for (word, _) in self.verdicts_of(service).filter(|(_, count)| *count == 0) {
                 faults.push(format!("{name}: verdict {word} never occurred"));
             }
+        }
+        for (service, name) in SERVICES.into_iter().filter(|one| on_batches(one.0)) {
+            let readings = self.readings[service as usize].faults();
+            faults.extend(readings.into_iter().map(|fault| format!("{name}: {fault}")));
         }
         faults
     }

@@ -47,7 +47,7 @@ module _ (batch : List ℕ) (s : State) (n : ℕ) (vs os : List ℕ) where
   j = planAndCommit batch s n vs os
 
   -- its state, where it keeps k
-  state-given : (k : ℕ) → p .answer ≡ gives k → j .state ≡ commitBatch (take (512 * k) (p .out)) s n (replicate k 0) .state
+  pub state-given : (k : ℕ) → p .answer ≡ gives k → j .state ≡ commitBatch (take (512 * k) (p .out)) s n (replicate k 0) .state
   unfolding planAndCommit
   state-given k e = rw e
 

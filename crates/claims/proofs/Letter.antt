@@ -18,7 +18,7 @@ use Rattle.orders.specs.Arrange.{lowest as lowestTicket, without, arrange, byTi
 use Rattle.ledger.specs.Tx.{Tx, keysRead, keysWritten, reader, floorOf}
 use Rattle.ledger.specs.Page.{countRows, entryRows, pageTx, bodyOf, pageOf}
 use Rattle.ledger.specs.declared.Entry.{Entry}
-use Rattle.ledger.specs.State.{State, gone, entry, store, stateRows, versions}
+use Rattle.ledger.specs.State.{State, never, entry, store, stateRows, versions}
 use Rattle.ledger.specs.Gate.{pages, txAt}
 use Rattle.ledger.specs.Commit.{passes, write, Commits, commitBatch}
 use Rattle.planning.specs.Plan.{before, sequence, kept, verdict, order, gathered, Plans, plans, short}
@@ -86,7 +86,7 @@ from-sheet xs k vs os weight sum few two long s =
 sheets :
     Sheet (correction 4 ∷ settlement 9 ∷ []) 2 (0 ∷ 0 ∷ []) (1 ∷ 0 ∷ []) (by 1 68400) (by 0 684000)
     × Sheet (correction 9 ∷ settlement 4 ∷ []) 2 (0 ∷ 0 ∷ []) (1 ∷ 0 ∷ []) (by 1 68400) (by 0 684000)
-    × Sheet (correction 4 ∷ closing 9 ∷ []) 1 (0 ∷ 2 ∷ []) (0 ∷ []) (by 0 68400) gone
+    × Sheet (correction 4 ∷ closing 9 ∷ []) 1 (0 ∷ 2 ∷ []) (0 ∷ []) (by 0 68400) never
     × Sheet (correction 9 ∷ closing 4 ∷ []) 1 (2 ∷ 0 ∷ []) (1 ∷ []) (by 0 0) (by 0 684000)
     × Sheet (plainCorrection 4 ∷ closing 9 ∷ []) 2 (0 ∷ 0 ∷ []) (1 ∷ 0 ∷ []) (by 1 68400) (by 0 684000)
     × Sheet (plainCorrection 9 ∷ closing 4 ∷ []) 2 (0 ∷ 0 ∷ []) (1 ∷ 0 ∷ []) (by 1 68400) (by 0 684000)

@@ -1,13 +1,17 @@
 pub mod AnyOrder
+pub mod Clerk
+pub mod Closed
 pub mod Demand3
 pub mod Each
 pub mod Empty
 pub mod Halves
 pub mod Joined
 pub mod Letter
+pub mod Marked
 pub mod Opened
 pub mod Pages
 pub mod Refusals
+pub mod Reached
 pub mod Running
 pub mod Shown
 pub mod Some

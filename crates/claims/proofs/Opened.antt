@@ -21,7 +21,7 @@ use Rattle.ledger.specs.declared.Read.{Read}
 use Rattle.ledger.specs.declared.Write.{Write}
 use Rattle.ledger.specs.Tx.{Tx, noRead, noWrite, readOf, writeOf, ReadFits, WriteFits}
 use Rattle.ledger.specs.Page.{countRows, entryRows, pageFault, pageOf, pageAt}
-use Rattle.ledger.specs.State.{State, stateOf, gone, keys, entry, wrongEntry, wrongLengths, stateRows}
+use Rattle.ledger.specs.State.{State, stateOf, never, keys, entry, wrongEntry, wrongLengths, stateRows}
 use Rattle.ledger.specs.Gate.{pages, rowsAt, pagesRows}
 use Rattle.ledger.proofs.Gated.{good-at, ticketRows, keyRows, pages-rest, state-rest, front-clear, gate-pages, not-wrong}
 use Rattle.ledger.proofs.Back.{Fitting, good-back}
@@ -35,7 +35,7 @@ use Rattle.claims.proofs.Shown.{long}
 
 -- ---- absent keys
 
-absent-at : (m k : ℕ) → k < m → entry (stateOf (replicate m 0) (replicate m 65535) (replicate m (pos 0))) k ≡ gone
+absent-at : (m k : ℕ) → k < m → entry (stateOf (replicate m 0) (replicate m 65535) (replicate m (pos 0))) k ≡ never
 unfolding entry
 absent-at m k h = rw (getD-replicate {A = ℕ} m k 0 0 h, getD-replicate {A = ℕ} m k 65535 0 h, getD-replicate m k (pos 0) (pos 0) h)
 
@@ -43,7 +43,7 @@ pub start-keys : keys start ≡ 1024
 unfolding start
 start-keys = length-replicate {A = ℕ} 1024 0
 
-pub start-absent : (k : ℕ) → k < 1024 → entry start k ≡ gone
+pub start-absent : (k : ℕ) → k < 1024 → entry start k ≡ never
 unfolding start
 start-absent k h = absent-at 1024 k h
 

@@ -32,7 +32,7 @@ use Rattle.planning.proofs.Passing.{write-other, Agree, Passing, passing, passi
 
 -- ---- what stands at a key after a write
 
-entry-same : (s : State) (k : ℕ) (e : Entry) → Level (s .blocks) (s .places) (s .values) → k < keys s → entry (store s k e) k ≡ e
+pub entry-same : (s : State) (k : ℕ) (e : Entry) → Level (s .blocks) (s .places) (s .values) → k < keys s → entry (store s k e) k ≡ e
 unfolding entry store
 entry-same s k e z h = λ i. record {
   version = record {
@@ -55,7 +55,7 @@ none-later v ws r w m e =
     let up = r .rises 0 (suc (at .0)) (omega arith) (omega (arith, at .1)) in
     omega (arith, ap (λ (x : Write). x .key) (at .2))
 
-write-last :
+pub write-last :
     (st : Stamp) (s : State) (ws : List Write) (w : Write) → Level (s .blocks) (s .places) (s .values) → w ∈ ws → Rise ws → w .key < keys s →
     entry (write st s ws) (w .key) ≡ left st w
 unfolding write

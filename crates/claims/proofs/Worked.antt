@@ -19,7 +19,7 @@ use Rattle.tonnage.specs.Text.{digits, widthIn, width, textOf}
 use Rattle.octets.specs.Bytes.{field, weighed, le}
 use Rattle.ledger.specs.Tx.{Tx, keysRead, keysWritten, reader, writer, floorOf}
 use Rattle.ledger.specs.Page.{countRows, entryRows, pageTx, bodyOf, pageOf}
-use Rattle.ledger.specs.State.{State, gone, keys, entry, store}
+use Rattle.ledger.specs.State.{State, never, keys, entry, store}
 use Rattle.ledger.specs.Gate.{pages, txAt}
 use Rattle.ledger.specs.Commit.{passes, stamp, write}
 use Rattle.ledger.proofs.Commits.{Kept, kept-self, kept-more, write-kept}
@@ -70,7 +70,7 @@ flat-rest f m zero h = rw add-zero
 flat-rest f m (suc r) h =
     rw (add-suc m r, h (m + r) (omega arith) (omega arith), append-nil (flat (m + r) f)) (flat-rest f m r (λ k l u. h k l (omega arith)))
 
-no-line : (s : State) (k : ℕ) → entry s k ≡ gone → keyLine s k ≡ []
+no-line : (s : State) (k : ℕ) → entry s k ≡ never → keyLine s k ≡ []
 unfolding keyLine
 no-line s k e = rw e
 

@@ -9,7 +9,7 @@ use Rattle.ledger.specs.declared.Read.{Read}
 use Rattle.ledger.specs.Version.{at}
 use Rattle.ledger.specs.Tx.{Tx}
 use Rattle.ledger.specs.declared.Entry.{Entry}
-use Rattle.ledger.specs.State.{State, stateOf, gone, entry}
+use Rattle.ledger.specs.State.{State, stateOf, never, entry}
 use Rattle.ledger.specs.Commit.{Commits, commitBatch}
 use Rattle.planning.specs.Plan.{Plans, planBatch}
 use Rattle.claims.specs.Cases.{tx, put, number, batchOf}
@@ -68,7 +68,7 @@ pub record Letter : Type 0 where
   pub correction-lower : Becomes (correction 4 ∷ settlement 9 ∷ []) 2 (0 ∷ 0 ∷ []) (1 ∷ 0 ∷ []) (by 1 68400) (by 0 684000)
   pub correction-higher : Becomes (correction 9 ∷ settlement 4 ∷ []) 2 (0 ∷ 0 ∷ []) (1 ∷ 0 ∷ []) (by 1 68400) (by 0 684000)
   -- where each reads what the other writes, the lower ticket is kept, and the other's verdict says why it is not
-  pub closing-higher : Becomes (correction 4 ∷ closing 9 ∷ []) 1 (0 ∷ 2 ∷ []) (0 ∷ []) (by 0 68400) gone
+  pub closing-higher : Becomes (correction 4 ∷ closing 9 ∷ []) 1 (0 ∷ 2 ∷ []) (0 ∷ []) (by 0 68400) never
   pub closing-lower : Becomes (correction 9 ∷ closing 4 ∷ []) 1 (2 ∷ 0 ∷ []) (1 ∷ []) (by 0 0) (by 0 684000)
   -- a correction that reads nothing is kept behind it, whichever ticket is lower
   pub plain-lower : Becomes (plainCorrection 4 ∷ closing 9 ∷ []) 2 (0 ∷ 0 ∷ []) (1 ∷ 0 ∷ []) (by 1 68400) (by 0 684000)

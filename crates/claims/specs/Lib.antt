@@ -1,4 +1,6 @@
 pub mod Cases
+pub mod Clerk
+pub mod Closed
 pub mod Joined
 pub mod Letter
 pub mod Programs

@@ -196,10 +196,10 @@ module _ (tx : ℕ → Tx) (s : State) (n : ℕ) (vs : List ℕ) where
   many : (i : ℕ) → length (verdicts n 0 s (first i)) ≡ i
   many i = verdicts-length n 0 s (first i) ∙ length-tab tx i
 
-  next-commit : (i : ℕ) → commit n 0 s (first (i + 1)) ≡ afterPage n i (commit n 0 s (first i)) (tx i)
+  pub next-commit : (i : ℕ) → commit n 0 s (first (i + 1)) ≡ afterPage n i (commit n 0 s (first i)) (tx i)
   next-commit i = rw (tab-more tx i, commit-last, length-tab, zero-add)
 
-  next-verdicts : (i : ℕ) → verdicts n 0 s (first (i + 1)) ≡ verdicts n 0 s (first i) ++ (checkVerdict (commit n 0 s (first i)) (tx i) ∷ [])
+  pub next-verdicts : (i : ℕ) → verdicts n 0 s (first (i + 1)) ≡ verdicts n 0 s (first i) ++ (checkVerdict (commit n 0 s (first i)) (tx i) ∷ [])
   next-verdicts i = rw (tab-more tx i, verdicts-last)
 
   module _ (i count : ℕ) (t : State) (ws : List ℕ) (c : Committing i count t ws) where

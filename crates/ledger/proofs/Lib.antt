@@ -14,6 +14,7 @@ pub mod Rising
 pub mod Entering
 pub mod Goodness
 pub mod Zero
+pub mod Apart
 pub mod Entries
 pub mod Gated
 pub mod Byte

@@ -4,6 +4,7 @@ use mathlib.Core.Bool.{Bool, cond}
 use mathlib.Core.List.{List, [], _∷_, _++_}
 use lib.ListN.{length, drop}
 use lib.Dec.{eqb, ltb}
+use lib.IntN.{pos}
 use Rattle.lists.specs.Members.{all, those}
 use Rattle.refusals.specs.declared.Answer.{Answer}
 use Rattle.refusals.specs.Outcome.{Outcome, outcome}
@@ -13,9 +14,9 @@ use Rattle.ledger.specs.declared.Read.{Read}
 use Rattle.ledger.specs.declared.Write.{Write}
 use Rattle.ledger.specs.declared.Entry.{Entry}
 use Rattle.ledger.specs.declared.Stamp.{Stamp}
-use Rattle.ledger.specs.Version.{at, same}
+use Rattle.ledger.specs.Version.{at, deleted, same}
 use Rattle.ledger.specs.Tx.{Tx}
-use Rattle.ledger.specs.State.{State, gone, versions, store}
+use Rattle.ledger.specs.State.{State, versions, store}
 use Rattle.ledger.specs.Gate.{pages, txs, lentRow, gateRows}
 
 -- a read "names the version that its key has": `held` tells the version of each key
@@ -30,9 +31,13 @@ passes held x = all (names held) (x .reads)
 abbrev pub stamp : ℕ → ℕ → Stamp
 stamp n i = record { number = n; place = i }
 
--- "Its puts set value and version (n, i), also where the value is unchanged. Its deletes make the key absent"
+-- "Its puts set value and version (n, i), also where the value is unchanged."
+-- 02, E3: "a delete, also of an absent key, leaves value 0 and version (n, i + 32768)"
 abbrev pub left : Stamp → Write → Entry
-left t w = cond (eqb (w .kind) 0) (record { version = at (t .number) (t .place); value = w .value }) gone
+left t w =
+    cond (eqb (w .kind) 0)
+    (record { version = at (t .number) (t .place); value = w .value })
+    (record { version = deleted (t .number) (t .place); value = pos 0 })
 
 unfoldable pub write : Stamp → State → List Write → State
 write t s [] = s

@@ -9,7 +9,7 @@ use Rattle.refusals.specs.Fault.{Row, row, eachRow}
 use Rattle.ledger.specs.declared.Version.{Version}
 use Rattle.ledger.specs.declared.Entry.{Entry}
 use Rattle.ledger.specs.Value.{isZero}
-use Rattle.ledger.specs.Version.{absent, at, same, ordinary}
+use Rattle.ledger.specs.Version.{absent, at, isPresent, isDeleted, isAbsent}
 
 -- "Three lists of one length K, 1 to 1024: block numbers .., places .., values in kilograms"
 pub record State : Type 0 where
@@ -21,9 +21,9 @@ pub record State : Type 0 where
 abbrev pub stateOf : List ℕ → List ℕ → List ℤ → State
 stateOf b p v = record { blocks = b; places = p; values = v }
 
--- "Absent is block 0, place 65535, value 0"
-abbrev pub gone : Entry
-gone = record { version = absent; value = pos 0 }
+-- "Absent is block 0, place 65535, value 0": the entry of a key never written
+abbrev pub never : Entry
+never = record { version = absent; value = pos 0 }
 
 -- K
 abbrev pub keys : State → ℕ
@@ -46,16 +46,17 @@ store s k e = record {
   values = set (s .values) k (e .value);
 }
 
--- an entry is absent
-abbrev pub isGone : Entry → Bool
-isGone e = same (e .version) absent && isZero (e .value)
+-- "every present entry must have a block number below n"
+abbrev pub presentUnder : ℕ → Version → Bool
+presentUnder n v = isPresent v && ltb (v .block) n
 
--- "Every other entry has a place of 0 to 63"; "every present entry must have a block number below n"
-abbrev pub present : ℕ → Version → Bool
-present n v = ordinary v && ltb (v .block) n
+-- 02, E3: "block below n"
+abbrev pub deletedUnder : ℕ → Version → Bool
+deletedUnder n v = isDeleted v && ltb (v .block) n
 
+-- an entry that is neither present nor deleted nor absent; 02, E3: "7 and 13 allow the new places, 13 with value 0 and block below n"
 abbrev pub wrongEntry : ℕ → Entry → Bool
-wrongEntry n e = not (isGone e || present n (e .version))
+wrongEntry n e = not (presentUnder n (e .version) || ((deletedUnder n (e .version) || isAbsent (e .version)) && isZero (e .value)))
 
 -- three lists that are unequal, empty or over 1024 long
 abbrev pub wrongLengths : State → Bool

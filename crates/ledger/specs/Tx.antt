@@ -13,7 +13,7 @@ use Rattle.ledger.specs.declared.Read.{Read}
 use Rattle.ledger.specs.declared.Write.{Write}
 use Rattle.ledger.specs.declared.Transaction.{Transaction}
 use Rattle.ledger.specs.Value.{isZero}
-use Rattle.ledger.specs.Version.{absent, same, ordinary}
+use Rattle.ledger.specs.Version.{isPresent, isDeleted, isAbsent}
 
 pub record Tx : Type 0 where
   pub ticket : ℕ
@@ -76,9 +76,9 @@ wrongKey floor key = ltb key floor || ltb 1023 key
 abbrev pub outOfTurn : (ℕ → ℕ) → ℕ → Bool
 outOfTurn key i = wrongKey (floorOf key i) (key i)
 
--- "A read's version is absent (block 0, place 65535) or has a place of 0 to 63"
+-- "A read's version is absent (block 0, place 65535) or has a place of 0 to 63"; 02, E3: "Reads may name a version with place 32768 to 32831"
 abbrev pub wrongVersion : Version → Bool
-wrongVersion v = not (ordinary v || same v absent)
+wrongVersion v = not (isPresent v || isDeleted v || isAbsent v)
 
 -- "Kind 0 puts, kind 1 deletes; a delete has value 0"
 abbrev pub wrongKind : Write → Bool

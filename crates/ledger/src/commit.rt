@@ -62,9 +62,10 @@ pub fn passes(page: &[u8], blocks: &[u32], places: &[u16]) -> bool
     first_stale(page, blocks, places) == content::reads(page)
 }
 
-// What a write leaves: a put its value under the stamp, a delete an absent key, whose value is the delete's own, 0.
+// What a write leaves: its value, which is 0 for a delete, under the stamp, which a delete marks.
 fn left(x: Write, stamp: Stamp) -> Entry
     requires { ⌜ wrongKind x ≡ false ⌝ }
+    requires { ⌜ stamp .place ≤ 63 ⌝ }
     ensures { λ e. ⌜ e ≡ left stamp x ⌝ }
 {
     if x.kind == rules::PUT {
@@ -74,8 +75,9 @@ fn left(x: Write, stamp: Stamp) -> Entry
             value: x.value,
         };
     }
+    let version = Version::deleted(stamp.number, stamp.place);
     Entry {
-        version: Version::ABSENT,
+        version,
         value: x.value,
     }
 }
@@ -84,6 +86,7 @@ fn left(x: Write, stamp: Stamp) -> Entry
 fn apply(page: &[u8], blocks: &mut [u32], places: &mut [u16], values: &mut [i64], stamp: Stamp)
     requires { ⌜ Ready (length (now blocks)) (now page) ⌝ }
     requires { ⌜ Level (now blocks) (now places) (now values) ⌝ }
+    requires { ⌜ stamp .place ≤ 63 ⌝ }
     ensures { λ _. ⌜ (
         let s = stateOf (now (blocks .entry)) (now (places .entry)) (now (values .entry)) in
         let left = stateOf (now (blocks .exit)) (now (places .exit)) (now (values .exit)) in
@@ -111,6 +114,7 @@ fn commit_page(
 ) -> bool
     requires { ⌜ Ready (length (now blocks)) (now page) ⌝ }
     requires { ⌜ Level (now blocks) (now places) (now values) ⌝ }
+    requires { ⌜ i ≤ 63 ⌝ }
     ensures { λ r. ⌜
         r ≡ passes (versionsIn (now (blocks .entry)) (now (places .entry))) (pageTx (now (page .entry)))
         ⌝ }

@@ -49,6 +49,11 @@ pub const MOST_PAGES: usize = LAST_PLACE as usize + 1;
 
 pub const MOST_BYTES: usize = MOST_PAGES * PAGE;
 
+// "version (n, i + 32768)": what the place of a delete is marked with.
+pub const DELETED: u16 = 32768;
+
+pub const LAST_DELETED: u16 = DELETED + LAST_PLACE;
+
 // "Absent is block 0, place 65535".
 pub const NO_BLOCK: u32 = 0;
 

@@ -20,12 +20,15 @@ pub fn key_wrong(floor: u32, key: u16) -> bool
     key > layout::LAST_KEY
 }
 
-// A version that is neither absent nor at a place of 0 to 63.
-// Absent is tested field by field: `same` would be worked out for ordinary places too.
+// A version that is neither present nor deleted nor absent.
+// Absent is tested field by field: `same` would be worked out for present ones too.
 pub fn version_wrong(v: Version) -> bool
     ensures { λ r. ⌜ r ≡ wrongVersion v ⌝ }
 {
-    if v.ordinary() {
+    if v.is_present() {
+        return false;
+    }
+    if v.is_deleted() {
         return false;
     }
     if v.block != layout::NO_BLOCK {

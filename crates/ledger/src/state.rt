@@ -10,7 +10,7 @@ ghost use lib.ListN.{length, getD};
 ghost use Rattle.lists.specs.Search.{firstIn, someIn};
 ghost use Rattle.ledger.specs.Version.{at};
 ghost use Rattle.refusals.specs.Fault.{first, finding};
-ghost use Rattle.ledger.specs.State.{stateOf, versionsIn, entry, store, isGone, present, wrongEntry, wrongLengths, stateRows};
+ghost use Rattle.ledger.specs.State.{stateOf, versionsIn, entry, store, presentUnder, wrongEntry, wrongLengths, stateRows};
 
 // Whether the three lists are unequal, empty or too long.
 pub fn lengths_wrong(blocks: &[u32], places: &[u16], values: &[i64]) -> bool
@@ -29,41 +29,28 @@ pub fn lengths_wrong(blocks: &[u32], places: &[u16], values: &[i64]) -> bool
     keys > layout::MOST_KEYS
 }
 
-impl Entry {
-    // "Absent is block 0, place 65535, value 0."
-    pub const ABSENT: Entry = Entry {
-        version: Version::ABSENT,
-        value: 0,
-    };
-
-    // Whether the entry is absent.
-    pub fn is_absent(self) -> bool
-        ensures { λ r. ⌜ r ≡ isGone self ⌝ }
-    {
-        let version = self.version;
-        if !version.same(Version::ABSENT) {
-            return false;
-        }
-        self.value == 0
-    }
-}
-
 // Whether a version is one that a present entry may have: a place of 0 to 63 of a block below n.
-fn present(v: Version, n: u32) -> bool
-    ensures { λ r. ⌜ r ≡ present n v ⌝ }
+fn present_under(v: Version, n: u32) -> bool
+    ensures { λ r. ⌜ r ≡ presentUnder n v ⌝ }
 {
-    v.ordinary() & (v.block < n)
+    v.is_present() & (v.block < n)
 }
 
-// An entry that is neither absent nor at a place of 0 to 63 of a block below n.
+// An entry that is neither present under n, nor deleted under n with value 0, nor absent with value 0.
 fn entry_wrong(e: Entry, n: u32) -> bool
     ensures { λ r. ⌜ r ≡ wrongEntry n e ⌝ }
 {
     let version = e.version;
-    if version.ordinary() {
+    if version.is_present() {
         return version.block >= n;
     }
-    !e.is_absent()
+    if e.value != 0 {
+        return true;
+    }
+    if version.is_deleted() {
+        return version.block >= n;
+    }
+    !version.same(Version::ABSENT)
 }
 
 // The version at a key.
@@ -91,14 +78,14 @@ fn all_present(blocks: &[u32], places: &[u16], n: u32) -> bool
     requires { ⌜ length (now places) ≡ length (now blocks) ⌝ }
     ensures { λ r. ⌜
         r
-        ≡ not (someIn (λ k. not (present n (versionsIn (now (blocks .entry)) (now (places .entry)) k))) 0
+        ≡ not (someIn (λ k. not (presentUnder n (versionsIn (now (blocks .entry)) (now (places .entry)) k))) 0
         (length (now (blocks .entry))))
         ⌝ }
 {
     let mut other = false;
     let mut k = 0;
     while k < blocks.len() {
-        other = other | !present(version_at(blocks, places, k), n);
+        other = other | !present_under(version_at(blocks, places, k), n);
         k += 1;
     }
     !other

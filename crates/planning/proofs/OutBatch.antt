@@ -68,7 +68,7 @@ module _ (batch : List ℕ) (m : ℕ) (whole : length batch ≡ m * 512) where
   out-front is f out =
       take-at (gathered batch is) (drop (512 * length is) out) (512 * length is) (omega (arith, gathered-whole is f))
 
-  gathered-page : (is : List ℕ) → ((i : ℕ) → i ∈ is → i < m) → (j : ℕ) → j < length is → pageAt (gathered batch is) j ≡ pageAt batch (getD is j 0)
+  pub gathered-page : (is : List ℕ) → ((i : ℕ) → i ∈ is → i < m) → (j : ℕ) → j < length is → pageAt (gathered batch is) j ≡ pageAt batch (getD is j 0)
   unfolding gathered
   gathered-page [] f j h = absurd (omega arith)
   gathered-page (i ∷ is) f zero h =

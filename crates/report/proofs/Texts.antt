@@ -9,7 +9,8 @@ use lib.Dec.{ltb}
 use borrow.Author.Tests.{lt-leb, le-leb, eqb-true, leb-true, not-false}
 use Rattle.lists.proofs.Tests.{leb-not, and-parts}
 use Rattle.ledger.specs.declared.Entry.{Entry}
-use Rattle.ledger.specs.State.{State, entry, isGone, wrongLengths}
+use Rattle.ledger.specs.Version.{isPresent}
+use Rattle.ledger.specs.State.{State, entry, wrongLengths}
 use Rattle.ledger.specs.Gate.{pages}
 use Rattle.report.specs.Put.{Put}
 use Rattle.lists.specs.Tables.{filled}
@@ -19,15 +20,15 @@ use Rattle.report.proofs.Puts.{fills, fills-to}
 -- ---- the line of a key
 
 module _ (k : ℕ) (e : Entry) where
-  pub line-gone : isGone e ≡ true → [] ≡ cond (isGone e) [] (stateLine k e)
-  line-gone h = rw h
+  pub line-none : isPresent (e .version) ≡ false → [] ≡ cond (isPresent (e .version)) (stateLine k e) []
+  line-none h = rw h
 
-  pub line-present : isGone e ≡ false → stateLine k e ≡ cond (isGone e) [] (stateLine k e)
+  pub line-present : isPresent (e .version) ≡ true → stateLine k e ≡ cond (isPresent (e .version)) (stateLine k e) []
   line-present h = rw h
 
-pub key-line : (s : State) (k : ℕ) (e : Entry) → e ≡ entry s k → cond (isGone e) [] (stateLine k e) ≡ keyLine s k
+pub key-line : (s : State) (k : ℕ) (e : Entry) → e ≡ entry s k → cond (isPresent (e .version)) (stateLine k e) [] ≡ keyLine s k
 unfolding keyLine
-key-line s k e h = ap (λ (x : Entry). cond (isGone x) [] (stateLine k x)) h
+key-line s k e h = ap (λ (x : Entry). cond (isPresent (x .version)) (stateLine k x) []) h
 
 -- ---- the refusal as a whole
 

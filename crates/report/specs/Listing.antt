@@ -9,7 +9,8 @@ use Rattle.lists.specs.Ascii.{ascii}
 use Rattle.tonnage.specs.Text.{digits, width, textOf}
 use Rattle.lists.specs.Tables.{flat}
 use Rattle.ledger.specs.declared.Entry.{Entry}
-use Rattle.ledger.specs.State.{State, keys, entry, isGone, wrongLengths}
+use Rattle.ledger.specs.Version.{isPresent}
+use Rattle.ledger.specs.State.{State, keys, entry, wrongLengths}
 use Rattle.ledger.specs.Gate.{pages, txAt}
 
 -- "numbers are decimal without needless zeros"
@@ -44,7 +45,7 @@ stateLine k e =
 
 -- "each present key"
 unfoldable pub keyLine : State → ℕ → List ℕ
-keyLine s k = cond (isGone (entry s k)) [] (stateLine k (entry s k))
+keyLine s k = cond (isPresent (entry s k .version)) (stateLine k (entry s k)) []
 
 -- "Then come the pages in input order .. Then each present key, rising"
 unfoldable pub listing : ℕ → List ℕ → List ℕ → List ℕ → ℕ → State → List ℕ

@@ -13,7 +13,8 @@ ghost use lib.Dec.{eqb};
 ghost use Rattle.lists.specs.Search.{firstIn};
 ghost use Rattle.lists.specs.Tables.{flat};
 ghost use mathlib.Core.Bool.{cond};
-ghost use Rattle.ledger.specs.State.{stateOf, isGone};
+ghost use Rattle.ledger.specs.Version.{isPresent};
+ghost use Rattle.ledger.specs.State.{stateOf};
 ghost use Rattle.ledger.specs.Gate.{pages, txAt};
 ghost use Rattle.report.specs.Put.{Put};
 ghost use Rattle.report.specs.Listing.{header, placeText, pageLine, stateLine, keyLine, refusal};
@@ -145,17 +146,17 @@ fn put_state(out: &mut [u8], at: usize, key: usize, version: Version, value: i64
     put::put_byte(out, seventh, b'\n')
 }
 
-// The line of a key; nothing where it is absent.
+// The line of a key; nothing where it is not present.
 fn put_key(out: &mut [u8], at: usize, key: usize, e: Entry) -> usize
     requires { ⌜ (at + 60 ≤ length (now out)) × (key < 1024) ⌝ }
     ensures { λ r. ⌜
-        (r ≤ at + 60) × Put (now (out .entry)) at (cond (isGone e) [] (stateLine key e)) (now (out .exit)) r
+        (r ≤ at + 60) × Put (now (out .entry)) at (cond (isPresent (e .version)) (stateLine key e) []) (now (out .exit)) r
         ⌝ }
 {
-    if e.is_absent() {
+    let version = e.version;
+    if !version.is_present() {
         return at;
     }
-    let version = e.version;
     put_state(out, at, key, version, e.value)
 }
 

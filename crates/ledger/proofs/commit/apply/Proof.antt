@@ -80,7 +80,8 @@ cast-store c = search needs
 left-requires : tie.Need-left-requires Inv-loop μ-loop
 left-requires c κs =
     let w = c .before .before .before .before in
-    rw (wrote w) (write-kinds _ (start (w .before) .pre .0 .good) _ (within (w .before)))
+    let s = start (w .before) in
+    (rw (wrote w) (write-kinds _ (s .pre .0 .good) _ (within (w .before))), s .pre .1 .1)
 
 store-requires : tie.Need-store-requires Inv-loop μ-loop
 store-requires c κs =
@@ -90,7 +91,7 @@ store-requires c κs =
     let s = start t in
     let k = ap (λ (x : Write). x .key) (wrote w) in
     let l = below (length (now (s .args .blocks))) (pageTx (now (s .args .page))) (s .pre .0 .within) .writes (h .loop .j) (within t) in
-    let z = writing-level (h .loop .inv) (s .pre .1) in
+    let z = writing-level (h .loop .inv) (s .pre .1 .0) in
     omega (arith, k, l, writing-kept (h .loop .inv) .blocks, z .places, z .values)
 
 add-j : tie.Need-add-j Inv-loop μ-loop

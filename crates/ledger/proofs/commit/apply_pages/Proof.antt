@@ -79,7 +79,7 @@ apply-requires c κs =
     let h = t .before in
     let s = start h in (
       rw (c .before .before .before .page-at .ensures, kept h .blocks) (s .pre .0 .each _ (s .pre .1 .1 .1 (h .loop .i) (t .loop-test .taken))),
-      kept-level (entered s) (here h) (kept h) (s .pre .1 .0),
+      (kept-level (entered s) (here h) (kept h) (s .pre .1 .0), omega (arith, t .loop-test .taken, s .pre .1 .1 .0)),
     )
 
 add-i : tie.Need-add-i Inv-loop μ-loop

@@ -86,7 +86,7 @@ commit-page-requires c κs =
     let t = c .before .before .before .before in
     let s = start t in (
       rw (c .before .before .before .page-at .ensures, kept t .blocks) (s .pre .0 .each (t .before .loop .i) (t .loop-test .taken)),
-      kept-level (entered s) (here t) (kept t) (s .pre .1 .0),
+      (kept-level (entered s) (here t) (kept t) (s .pre .1 .0), omega (arith, t .loop-test .taken, s .pre .0 .few)),
     )
 
 slice-write-verdicts : tie.Need-slice-write-verdicts Inv-loop μ-loop

@@ -1,6 +1,6 @@
 -- `all_present`: the tests so far, joined.
 use Prim.Native.Nat.{_-_}
-use Rattle.ledger.specs.State.{versionsIn, present}
+use Rattle.ledger.specs.State.{versionsIn, presentUnder}
 use Rattle.lists.proofs.Loops.{Joined, joined-begins, joined-turns, joined-ends}
 use borrow.Author.Needs.{needs}
 use lib.ListN.{length}
@@ -10,7 +10,7 @@ use Rattle.ledger.proofs.state.all_present.Statement.{statement}
 use Rattle.ledger.proofs.state.all_present.Tie as tie
 
 abbrev Inv-loop : tie.InvT-loop
-Inv-loop blocks places n other₀ k₀ other k = Joined (λ j. not (present n (versionsIn blocks places j))) (length blocks) k other
+Inv-loop blocks places n other₀ k₀ other k = Joined (λ j. not (presentUnder n (versionsIn blocks places j))) (length blocks) k other
 
 abbrev μ-loop : tie.MeasureT-loop
 μ-loop blocks places n other₀ k₀ other k = length blocks - k
@@ -21,8 +21,8 @@ loop-holds c = joined-begins _ _
 version-at-requires : tie.Need-version-at-requires Inv-loop μ-loop
 version-at-requires c κs = search needs
 
-present-requires : tie.Need-present-requires Inv-loop μ-loop
-present-requires c κs = search needs
+present-under-requires : tie.Need-present-under-requires Inv-loop μ-loop
+present-under-requires c κs = search needs
 
 add-k : tie.Need-add-k Inv-loop μ-loop
 add-k c = search needs
@@ -35,7 +35,7 @@ loop-again c =
     let v = c .before in
     let h = v .before .before in
     joined-turns (h .loop .inv) _ _ (v .before .loop-test .taken)
-    (ap not (c .present .ensures ∙ ap (present (h .before .before .before .args .n)) (v .version-at .ensures))) refl
+    (ap not (c .present-under .ensures ∙ ap (presentUnder (h .before .before .before .args .n)) (v .version-at .ensures))) refl
 
 returns : tie.Need-returns Inv-loop μ-loop
 returns c = ap not (joined-ends (c .before .loop .inv) (c .loop-test .left))
@@ -48,7 +48,7 @@ all-present-spec =
     μ-loop
     loop-holds
     version-at-requires
-    present-requires
+    present-under-requires
     add-k
     loop-less
     loop-again

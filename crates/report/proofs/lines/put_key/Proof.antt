@@ -1,7 +1,8 @@
--- `put_key`: nothing where the entry is absent.
+-- `put_key`: nothing where the entry is not present.
 use Rattle.report.proofs.Puts.{none, put-as}
-use Rattle.report.proofs.Texts.{line-gone, line-present}
+use Rattle.report.proofs.Texts.{line-none, line-present}
 use borrow.Author.Needs.{needs}
+use borrow.Author.Tests.{not-true, not-false}
 use mathlib.Core.List.{[]}
 use mathlib.Core.Path.{sym, _∙_}
 use mir.Facts.{toZ-ofZ}
@@ -10,14 +11,15 @@ use native.Mathlib.Omega.{arith}
 use Rattle.report.proofs.lines.put_key.Statement.{statement}
 use Rattle.report.proofs.lines.put_key.Tie as tie
 
-is-absent-requires : tie.Need-is-absent-requires
-is-absent-requires c κs = search needs
+is-present-requires : tie.Need-is-present-requires
+is-present-requires c κs = search needs
 
 returns : tie.Need-returns
 returns c =
     let i = c .before in
-    let a = i .before .before .args in
-    (omega arith, put-as _ _ [] _ _ _ (line-gone (a .key) (a .e) (sym (i .is-absent .ensures) ∙ c .if1 .taken)) (none _ _))
+    let a = i .before .before .before .args in
+    let e = sym (i .is-present .ensures) ∙ not-true (i .is-present .result) (c .if1 .taken) in
+    (omega arith, put-as _ _ [] _ _ _ (line-none (a .key) (a .e) e) (none _ _))
 
 put-state-requires : tie.Need-put-state-requires
 put-state-requires c κs = search needs
@@ -29,12 +31,12 @@ returns-2 : tie.Need-returns-2
 returns-2 c =
     let p = c .before .before in
     let t = p .before in
-    let l = t .before .before .before in
+    let l = t .before .before in
     let i = l .before in
-    let a = i .before .before .args in
+    let a = i .before .before .before .args in
     let z = toZ-ofZ {w = w64} {z = a .e .value} (record { sfits = t .struct-told .given .1 .0 .1 }) in
-    (p .put-state .ensures .0, put-as _ _ _ _ _ _ (line-present (a .key) (a .e) (sym (i .is-absent .ensures) ∙ l .if1 .left)) (rw z at (p .put-state .ensures .1)))
+    let e = sym (i .is-present .ensures) ∙ not-false (i .is-present .result) (l .if1 .left) in
+    (p .put-state .ensures .0, put-as _ _ _ _ _ _ (line-present (a .key) (a .e) e) (rw z at (p .put-state .ensures .1)))
 
 pub put-key-spec : {M : Type 1} → statement M
-put-key-spec =
-    tie.close (tie.spec is-absent-requires returns put-state-requires same-length returns-2)
+put-key-spec = tie.close (tie.spec is-present-requires returns put-state-requires same-length returns-2)

@@ -19,10 +19,12 @@ module _ {A : Type 0} where
   -- ---- tests over all members
 
   pub any_in : (p : A → Bool) {x : A} (xs : List A) → x ∈ xs → T (p x) → T (any p xs)
+  any_in p [] x3 t = elim x3 [ ]
   any_in p (y ∷ ys) (Memᴰ.head e) t = or_left (p y) _ (subst (λ (z : A). T (p z)) e t)
   any_in p (y ∷ ys) (Memᴰ.tail m) t = or_right (p y) _ (any_in p ys m t)
 
   pub any_out : (p : A → Bool) (xs : List A) → T (any p xs) → (x : A) × (x ∈ xs) × T (p x)
+  any_out p [] t = elim t [ ]
   any_out p (y ∷ ys) t = go (or_cases (p y) _ t) (λ (u : T (any p ys)). any_out p ys u)
     where
       go : T (p y) ⊎ T (any p ys) → (T (any p ys) → (x : A) × (x ∈ ys) × T (p x)) → (x : A) × (x ∈ (y ∷ ys)) × T (p x)
@@ -48,6 +50,7 @@ module _ {A : Type 0} where
   all_in p (y ∷ ys) f = both (p y) _ (f y (Memᴰ.head refl)) (all_in p ys (λ x m. f x (Memᴰ.tail m)))
 
   pub all-out : (p : A → Bool) (xs : List A) → T (all p xs) → {x : A} → x ∈ xs → T (p x)
+  all-out p [] t x4 = elim x4 [ ]
   all-out p (y ∷ ys) t (Memᴰ.head e) = subst (λ (z : A). T (p z)) (sym e) (and_left (p y) _ t)
   all-out p (y ∷ ys) t (Memᴰ.tail m) = all-out p ys (and_right (p y) _ t) m
 
@@ -59,6 +62,7 @@ module _ {A : Type 0} where
 
   -- and a member stands at some index
   pub in_at : (xs : List A) (d : A) {x : A} → x ∈ xs → (k : ℕ) × (k < length xs) × (x ≡ get_or xs k d)
+  in_at [] d x3 = elim x3 [ ]
   in_at (y ∷ ys) d (Memᴰ.head e) = (0, omega arith, e)
   in_at (y ∷ ys) d (Memᴰ.tail m) = let w = in_at ys d m in (suc w.0, omega (arith, w.1), w.2)
 
@@ -75,6 +79,7 @@ module _ {A : Type 0} where
       (λ t n. (Memᴰ.tail (those-out p ys n).0, (those-out p ys n).1))
 
   pub those_in : (p : A → Bool) (xs : List A) {x : A} → x ∈ xs → T (p x) → x ∈ those p xs
+  those_in p [] {x = x} x4 t = elim x4 [ ]
   those_in p (y ∷ ys) {x} (Memᴰ.head e) t =
       by_test (λ l. x ∈ l) (p y) (λ u. Memᴰ.head e) (λ u. absurd (T_not (p y) u (subst (λ (z : A). T (p z)) e t)))
   those_in p (y ∷ ys) {x} (Memᴰ.tail m) t =
@@ -105,6 +110,7 @@ module _ {A : Type 0} where
       by_test (λ l. length l ≤ suc (length ys)) (p y) (λ u. omega arith) (λ u. omega arith)
 
   pub those_fewer : (p : A → Bool) (xs : List A) {x : A} → x ∈ xs → T (not (p x)) → suc (length (those p xs)) ≤ length xs
+  those_fewer p [] x4 t = elim x4 [ ]
   those_fewer p (y ∷ ys) (Memᴰ.head e) t =
       let below = those_shorter p ys in
       by_test (λ l. suc (length l) ≤ suc (length ys)) (p y) (λ u. absurd (T_not (p y) (rw e at t) u)) (λ u. omega arith)
@@ -205,10 +211,12 @@ module _ {A B : Type 0} (f : A → B) where
 
   -- a member of a relabelled list is the new label of a member
   pub map-out : (xs : List A) {y : B} → y ∈ map f xs → (x : A) × (x ∈ xs) × (y ≡ f x)
+  map-out [] {y = y} x' = elim x' [ ]
   map-out (x ∷ xs) (Memᴰ.head e) = (x, Memᴰ.head refl, e)
   map-out (x ∷ xs) (Memᴰ.tail m) = let w = map-out xs m in (w.0, Memᴰ.tail w.1, w.2)
 
   pub map_in : (xs : List A) {x : A} → x ∈ xs → f x ∈ map f xs
+  map_in [] x3 = elim x3 [ ]
   map_in (y ∷ ys) (Memᴰ.head e) = Memᴰ.head (ap f e)
   map_in (y ∷ ys) (Memᴰ.tail m) = Memᴰ.tail (map_in ys m)
 

@@ -8,15 +8,19 @@ use lib.Dec.{T, T_not, not_T, eqb, leb, ltb, eqb_refl, eqb→eq}
 use borrow.Author.Tests.{ltb-true, ltb-false, lt-leb, le-leb, eq-eqb, ne_eqb}
 
 pub both : (a b : Bool) → T a → T b → T (a && b)
+both false b p q = elim p [ ]
 both true b p q = q
 
 pub and_left : (a b : Bool) → T (a && b) → T a
+and_left false b p = elim p [ ]
 and_left true b p = tt
 
 pub and_right : (a b : Bool) → T (a && b) → T b
+and_right false b p = elim p [ ]
 and_right true b p = p
 
 pub or_left : (a b : Bool) → T a → T (a || b)
+or_left false b p = elim p [ ]
 or_left true b p = tt
 
 pub or_right : (a b : Bool) → T b → T (a || b)
@@ -38,9 +42,11 @@ decide false = inr tt
 
 -- a test that passes is true, one whose negation does is false
 pub is_true : (b : Bool) → T b → b ≡ true
+is_true false t = elim t [ ]
 is_true true t = refl
 
 pub is_false : (b : Bool) → T (not b) → b ≡ false
+is_false true t = elim t [ ]
 is_false false t = refl
 
 pub of_true : (b : Bool) → b ≡ true → T b

@@ -86,6 +86,7 @@ module _ (before : ℕ → ℕ → Bool) where
   -- who is not kept closes a cycle with the kept
   pub admit_rejects : (kept is : List ℕ) {x : ℕ} → x ∈ is → (x ∈ admit before kept is → ⊥) → Cycle before (x ∷ admit before kept is)
   unfolding admit
+  admit_rejects kept [] {x = x} x3 = elim x3 [ ]
   admit_rejects kept (i ∷ is) {x} (Memᴰ.head e) =
       by_test
       (λ l. (x ∈ l → ⊥) → Cycle before (x ∷ l))

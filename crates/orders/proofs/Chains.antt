@@ -11,11 +11,11 @@ use Rattle.lists.proofs.Membership.{any_in, any_out, all_in, all-out, those-out}
 use Rattle.orders.specs.Chain.{joined, cyclic, Chain, Chain.one, Chain.more, Cycle, ordered}
 
 module _ {A : Type 0} (before : A → A → Bool) where
-  pub chain_mono : {ks ls : List A} → ((x : A) → x ∈ ks → x ∈ ls) → {a b : A} → Chain before ks b a → Chain before ls b a
+  pub chain_mono : {ks ls : List A} → ((x : A) → x ∈ ks → x ∈ ls) → {b a : A} → Chain before ks b a → Chain before ls b a
   chain_mono f (one e) = one e
   chain_mono f (more {c = c} e m p) = more e (f c m) (chain_mono f p)
 
-  pub chain-append : {ks : List A} {a k b : A} → Chain before ks k a → k ∈ ks → Chain before ks b k → Chain before ks b a
+  pub chain-append : {ks : List A} {k b a : A} → Chain before ks k a → k ∈ ks → Chain before ks b k → Chain before ks b a
   chain-append (one e) m q = more e m q
   chain-append (more e n p) m q = more e n (chain-append p m q)
 
@@ -58,6 +58,7 @@ module _ {A : Type 0} (before : A → A → Bool) where
 
   pub joined_trans : (ks : List A) (a c b : A) → c ∈ ks → T (joined before ks a c) → T (joined before ks c b) → T (joined before ks a b)
   unfolding joined
+  joined_trans [] a c b x3 t u = elim x3 [ ]
   joined_trans (k ∷ ks) a c b (Memᴰ.head e) t u =
       through k ks a b
       (into k ks a (subst (λ (x : A). T (joined before (k ∷ ks) a x)) e t))
@@ -75,7 +76,7 @@ module _ {A : Type 0} (before : A → A → Bool) where
       go (inr p) (inl q) f = through k ks a b (and_left (joined before ks a k) _ p) (f k b (and_right (joined before ks a k) _ p) q)
       go (inr p) (inr q) f = through k ks a b (and_left (joined before ks a k) _ p) (and_right (joined before ks c k) _ q)
 
-  pub chain-joined : {ks : List A} {a b : A} → Chain before ks b a → T (joined before ks a b)
+  pub chain-joined : {ks : List A} {b a : A} → Chain before ks b a → T (joined before ks a b)
   chain-joined {ks} {b = b} (one {a = a} e) = joined-one ks a b e
   chain-joined {ks} {b = b} (more {a = a} {c = c} e m p) = joined_trans ks a c b m (joined-one ks a c e) (chain-joined p)
 
@@ -130,6 +131,7 @@ module _ {A : Type 0} (before : A → A → Bool) where
   -- no one need stand before those in front of it
   pub ordered_front : (xs : List A) (b : A) (ys : List A) → T (ordered before (xs ++ b ∷ ys)) → {x : A} → x ∈ xs → T (not (before b x))
   unfolding ordered
+  ordered_front [] b ys t x4 = elim x4 [ ]
   ordered_front (x ∷ xs) b ys t (Memᴰ.head e) =
       rw e (all-out (λ a. not (before a x)) (xs ++ b ∷ ys) (and_left (all (λ a. not (before a x)) (xs ++ b ∷ ys)) _ t) (Memᴰ.append_right xs (Memᴰ.head refl)))
   ordered_front (x ∷ xs) b ys t (Memᴰ.tail m) = ordered_front xs b ys (and_right (all (λ a. not (before a x)) (xs ++ b ∷ ys)) _ t) m
@@ -145,9 +147,9 @@ module _ {A : Type 0} (before : A → A → Bool) where
       no_chain_to_first m (one e) = none_before m e
       no_chain_to_first m (more e n p) = no_chain_to_first n p
 
-      past_first : {a c : A} → a ∈ (b ∷ os) → Chain before (b ∷ os) c a → Chain before os c a
+      past_first : {c a : A} → a ∈ (b ∷ os) → Chain before (b ∷ os) c a → Chain before os c a
       past_first m (one e) = one e
-      past_first {a} {c} m (more {c = d} e n p) = go n (past_first n p)
+      past_first {c} {a} m (more {c = d} e n p) = go n (past_first n p)
         where
           go : d ∈ (b ∷ os) → Chain before os c d → Chain before os c a
           go (Memᴰ.head q) rest = absurd (none_before m (subst (λ (x : A). T (before a x)) q e))
@@ -179,6 +181,7 @@ module _ {A : Type 0} (before : A → A → Bool) where
       where
         only : {x : A} → x ∈ (t ∷ []) → x ≡ t
         only (Memᴰ.head e) = e
+        only (Memᴰ.tail n) = elim n [ ]
     source t (u ∷ us) sub = go (source u us (λ x n. sub x (Memᴰ.tail n)))
       where
         t_in : t ∈ ts

@@ -20,9 +20,9 @@ module _ (before : ℕ → ℕ → Bool) where
   way_chain h {a} {b} (last e) = one (of_true (before a b) e)
   way_chain h {a} (step {d = d} e k p) = more (of_true (before a d) e) (h.listed d k) (way_chain h p)
 
-  chain_way : {K : ℕ → Bool} {ks : List ℕ} → Lists K ks → {a b : ℕ} → Chain before ks b a → Way before K a b
-  chain_way h {a} {b} (one e) = last (is_true (before a b) e)
-  chain_way h {a} (more {c = c} e m p) = step (is_true (before a c) e) (h.held c m) (chain_way h p)
+  chain_way : {K : ℕ → Bool} {ks : List ℕ} → Lists K ks → {b a : ℕ} → Chain before ks b a → Way before K a b
+  chain_way h {b} {a} (one e) = last (is_true (before a b) e)
+  chain_way h {a = a} (more {c = c} e m p) = step (is_true (before a c) e) (h.held c m) (chain_way h p)
 
   pub way_joined : {K : ℕ → Bool} {ks : List ℕ} → Lists K ks → (a b : ℕ) → Way before K a b ↔ T (joined before ks a b)
   way_joined {ks = ks} h a b = (λ p. chain-joined before (way_chain h p), λ t. chain_way h (joined-chain before ks a b t))

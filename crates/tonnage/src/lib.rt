@@ -1,4 +1,5 @@
 // Tonnage texts: kilograms written as tonnes, read and written.
+#![tactic(auto)]
 use refusals::Refusal;
 
 // What reading a text finds.

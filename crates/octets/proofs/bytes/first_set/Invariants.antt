@@ -1,0 +1,15 @@
+use mathlib.Core.Path.{ap}
+use mathlib.Core.Bool.{not}
+use Prim.Native.Nat.{◌-◌}
+use borrow.Author.Rules.{rules}
+use borrow.Author.Tests.{eq-eqb, ne_eqb}
+use Rattle.lists.proofs.Loops.{Unfound, begins, found, passes, ends}
+use Rattle.octets.specs.Bytes.{set?}
+use Rattle.octets.proofs.bytes.first_set.Given as goal
+
+-- `first_set`: a search by byte.
+abbrev pub invariant-loop-i : goal.invariant-loop-i
+invariant-loop-i l = Unfound (set? l.p) l.from l.to l.i
+
+abbrev pub decreases-loop-i : goal.decreases-loop-i
+decreases-loop-i l = l.to - l.i

@@ -1,0 +1,16 @@
+use mathlib.Core.Path.{◌≡◌, ap, ◌∙◌}
+use Prim.Native.Nat.{◌+◌, ◌*◌, ◌-◌, ◌≤◌, ◌<◌}
+use borrow.Author.Rules.{rules}
+use native.Mathlib.Nat.{le_antisymm}
+use native.Mathlib.Omega.{arith}
+use lib.ListN.{get_or}
+use Rattle.octets.specs.Columns.{by_columns}
+use Rattle.octets.proofs.Columns.{gathered_next, column_le}
+use Rattle.octets.proofs.weight.gather.Given as goal
+
+-- `gather`: the columns so far, and a bound on their sum that keeps it within 32 bits.
+abbrev pub invariant-loop-c : goal.invariant-loop-c
+invariant-loop-c l = (l.c ≤ 48) × (l.total ≡ by_columns l.sums l.runs l.c) × (l.total ≤ 6291360 * l.c)
+
+abbrev pub decreases-loop-c : goal.decreases-loop-c
+decreases-loop-c l = 48 - l.c

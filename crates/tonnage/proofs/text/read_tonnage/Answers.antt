@@ -1,0 +1,48 @@
+use mathlib.Core.Path.{◌≡◌, sym, ◌∙◌}
+use mathlib.Core.Bool.{true, true≢false}
+use mathlib.Core.Logic.{⊎_elim}
+use native.Mathlib.Omega.{arith}
+use mir.Facts.{to_z-of_z}
+use borrow.Author.Rules.{rules}
+use borrow.Author.Tests.{not-true, not-false}
+use Rattle.tonnage.specs.Text.{laid}
+use Rattle.tonnage.proofs.Answers.{unlaid, minus-zero, too_low, too_high, taken}
+use Rattle.tonnage.proofs.text.read_tonnage.Goals as goal
+use Rattle.tonnage.proofs.text.read_tonnage.Goals.{Else-not-laid}
+
+-- `read_tonnage`: the form, then the range, on each side of the sign.
+-- past the first test the text is laid out well
+well : (c : Else-not-laid) → laid c.args.text.now ≡ true
+well c = sym c.laid.ensures ∙ not-false _ c.if-not-laid.false
+
+pub returns-then-not-laid : goal.returns-then-not-laid
+returns-then-not-laid c =
+    c.unread.ensures ∙ sym (unlaid _ (sym c.laid.ensures ∙ not-true _ c.if-not-laid.true))
+
+pub size-size-requires : goal.size-size-requires
+size-size-requires c = well (goal.at.size-size-requires c).Else-not-laid
+
+pub returns-then-size-eq0 : goal.returns-then-size-eq0
+returns-then-size-eq0 c =
+    c.unread-then-size-eq0.ensures ∙ sym (minus-zero _ _ c.size-size.ensures (sym c.minus-minus.ensures ∙ c.if-minus.true) c.if-size-eq0.true)
+
+pub returns-then-size-gt-LOWEST : goal.returns-then-size-gt-LOWEST
+returns-then-size-gt-LOWEST c =
+    c.unread-then-size-gt-LOWEST.ensures ∙ sym (too_low _ _ c.size-size.ensures (well (goal.at.returns-then-size-gt-LOWEST c).Else-not-laid) (sym c.minus-minus.ensures ∙ c.if-minus.true) c.if-size-gt-LOWEST.true)
+
+pub returns-then-size-gt-HIGHEST : goal.returns-then-size-gt-HIGHEST
+returns-then-size-gt-HIGHEST c =
+    c.unread-then-size-gt-HIGHEST.ensures ∙ sym (too_high _ _ c.size-size.ensures (well (goal.at.returns-then-size-gt-HIGHEST c).Else-not-laid) (sym c.minus-minus.ensures ∙ c.if-minus.false) c.if-size-gt-HIGHEST.true)
+
+pub with_sign-value-requires : goal.with_sign-value-requires
+with_sign-value-requires c =
+    ⊎_elim
+    (λ w. (λ _. (omega (arith, w.1.left), w.2.left), λ e. absurd (true≢false (sym w.0.taken ∙ e))))
+    (λ w. (λ e. absurd (true≢false (sym e ∙ w.0.left)), λ _. w.1.left))
+    c.if-minus.branch
+
+pub returns : goal.returns
+returns c =
+    let b = with-sign-requires c c.with_sign-value.lifetimes in
+    rw (to_z-of_z (record { sfits = c.with_sign-value.type-inv }), c.with_sign-value.ensures)
+    (sym (taken _ _ c.size-size.ensures (well (goal.at.returns c).Else-not-laid) _ c.minus-minus.ensures b.0 b.1))

@@ -1,22 +1,23 @@
 // The ledger: pages, the state, the gate of a batch, version check and commit.
+#![tactic(auto)]
 use refusals::Refusal;
 
 // A version: a block number and a place.
-#[derive(Drop)]
+#[derive(Clone, Copy)]
 pub struct Version {
     pub block: u32,
     pub place: u16,
 }
 
 // A read: a key, and the version that it names.
-#[derive(Drop)]
+#[derive(Clone, Copy)]
 pub struct Read {
     pub key: u16,
     pub version: Version,
 }
 
 // A write: a key, 0 for put or 1 for delete, and the value that is put.
-#[derive(Drop)]
+#[derive(Clone, Copy)]
 pub struct Write {
     pub key: u16,
     pub kind: u16,
@@ -24,14 +25,14 @@ pub struct Write {
 }
 
 // What stands at a key: a version, and a value in kilograms.
-#[derive(Drop)]
+#[derive(Clone, Copy)]
 pub struct Entry {
     pub version: Version,
     pub value: i64,
 }
 
 // What the writes of a page are marked with: the number of the batch, and the page's place in it.
-#[derive(Drop)]
+#[derive(Clone, Copy)]
 pub struct Stamp {
     pub number: u32,
     pub place: u16,

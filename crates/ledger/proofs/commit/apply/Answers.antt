@@ -1,0 +1,92 @@
+use mathlib.Core.Path.{◌≡◌, ap, ◌∙◌}
+use Prim.Native.Nat.{◌+◌, ◌*◌, ◌-◌, ◌≤◌, ◌<◌}
+use lib.ListN.{length}
+use Rattle.ledger.specs.declared.Write.{Write}
+use Rattle.ledger.specs.Page.{read_count, page_tx}
+use Rattle.ledger.specs.Tx.{write_of}
+use Rattle.ledger.specs.State.{state_of, store}
+use Rattle.ledger.specs.Inner.{Counted}
+use Rattle.ledger.proofs.Pages.{good-counted}
+use Rattle.ledger.proofs.Rising.{below, write_kinds_lem}
+use Rattle.ledger.proofs.OnPage.{count-reads, count-writes, write_from}
+use Rattle.ledger.proofs.Commits.{Writing, writing_begins, writing_kept, writing_level, writing_turns, writing_ends}
+use borrow.Author.Rules.{rules}
+use native.Mathlib.Omega.{arith}
+use Rattle.ledger.proofs.commit.apply.Goals as goal
+use Rattle.ledger.proofs.commit.apply.Goals.{After-write_at-x, After-writes_at-from, In-loop-j, Start}
+
+counted : (c : Start) → Counted c.args.page.now
+counted c = good-counted _ c.requires.ready.good
+
+-- the writes start behind the reads
+behind : (c : After-writes_at-from) → ‹c.writes_at_lem.result› ≡ 8 + 8 * read_count c.args.page.now
+behind c = omega (arith, ‹c.writes_at_lem.ensures›, c.reads.ensures, count-reads c.args.page.now)
+
+-- a turn's index is one of a write
+within : (c : In-loop-j) → c.loop-j.j < length (page_tx c.args.page.now).writes
+within c = omega (arith, c.loop-j-test.true, c.writes-count.ensures)
+
+-- the write of a turn
+wrote : (c : After-write_at-x) → c.write_at-x.result ≡ write_of (page_tx c.args.page.now).writes c.loop-j.j
+wrote c =
+    let p = c.args.page.now in
+    c.write_at-x.ensures ∙ write_from p _ c.loop-j.j (behind ‹c›) (omega (arith, within ‹c›, count-writes p))
+
+-- it lies within the page
+room : (c : In-loop-j) → ‹c.before.before.writes_at_lem.result› + 12 * c.loop-j.j + 12 ≤ 512
+room c =
+    let p = c.args.page.now in
+    omega (arith, behind ‹c›, within c, count-writes p, (counted ‹c›).room)
+
+pub writes-count-requires : goal.writes-count-requires
+writes-count-requires c = counted (goal.at.writes-count-requires c).Start
+
+pub reads-requires : goal.reads-requires
+reads-requires c = counted (goal.at.reads-requires c).Start
+
+pub writes_at-from-requires : goal.writes_at-from-requires
+writes_at-from-requires c =
+    omega (arith, c.reads.ensures, count-reads c.args.page.now, (counted (goal.at.writes_at-from-requires c).Start).few-reads)
+
+pub loop-j-init : goal.loop-j-init
+loop-j-init c = writing_begins _ _ _
+
+pub overflow_mul-j : goal.overflow_mul-j
+overflow_mul-j c = omega (arith, room (goal.at.overflow_mul-j c).In-loop-j)
+
+pub overflow_add-from : goal.overflow_add-from
+overflow_add-from c = omega (arith, room (goal.at.overflow_add-from c).In-loop-j)
+
+pub write_at-x-requires : goal.write_at-x-requires
+write_at-x-requires c = omega (arith, room (goal.at.write_at-x-requires c).In-loop-j, (counted (goal.at.write_at-x-requires c).Start).whole)
+
+pub left-requires : goal.left-requires
+left-requires c = record {
+  x_value = rw (wrote (goal.at.left-requires c).After-write_at-x) (write_kinds_lem _ c.requires.ready.good _ (within (goal.at.left-requires c).In-loop-j));
+  place_bound = c.requires.place_bound;
+}
+
+pub store-requires : goal.store-requires
+store-requires c =
+    let k = ap (λ (x : Write). x.key) (wrote (goal.at.store-requires c).After-write_at-x) in
+    let l = (below (length c.args.blocks.now) (page_tx c.args.page.now) c.requires.ready.within).writes c.loop-j.j (within (goal.at.store-requires c).In-loop-j) in
+    let z = writing_level c.loop-j.invariant c.requires.level in
+    omega (arith, k, l, (writing_kept c.loop-j.invariant).blocks, z.places, z.values)
+
+pub loop-j-preserved : goal.loop-j-preserved
+loop-j-preserved c =
+    let l = c.store.new in
+    writing_turns c.loop-j.invariant c.write_at-x.result (state_of l.0 l.1.0 l.1.1.0) (within (goal.at.loop-j-preserved c).In-loop-j) (wrote (goal.at.loop-j-preserved c).After-write_at-x)
+    (c.store.ensures ∙ ap (store (state_of c.loop-j.blocks c.loop-j.places c.loop-j.values) c.write_at-x.result.key) c.left.ensures)
+
+pub shape_of-blocks : goal.shape_of-blocks
+shape_of-blocks c = (writing_kept c.loop-j.invariant).blocks
+
+pub shape_of-places : goal.shape_of-places
+shape_of-places c = (writing_kept c.loop-j.invariant).places
+
+pub shape_of-values : goal.shape_of-values
+shape_of-values c = (writing_kept c.loop-j.invariant).values
+
+pub returns : goal.returns
+returns c = writing_ends c.loop-j.invariant (omega (arith, c.loop-j-test.false, c.writes-count.ensures))

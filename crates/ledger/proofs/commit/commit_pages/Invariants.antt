@@ -1,0 +1,21 @@
+use mathlib.Core.Path.{◌≡◌, sym, ap, ◌∙◌}
+use mathlib.Core.Bool.{Bool, true, false, cond}
+use mathlib.Core.Logic.{⊎_elim}
+use mathlib.Core.List.{List}
+use Prim.Native.Nat.{ℕ, ◌+◌, ◌-◌, ◌≤◌, ◌<◌}
+use native.Mathlib.Nat.{add-zero}
+use native.Mathlib.Omega.{arith}
+use borrow.Author.Rules.{rules}
+use lib.ListN.{length, set}
+use Rattle.ledger.specs.Gate.{tx_at}
+use Rattle.ledger.specs.Page.{page_tx}
+use Rattle.ledger.specs.State.{State, state_of}
+use Rattle.ledger.proofs.Commits.{Kept, kept_level, Committing, committing_begins, committing_kept, committing_long, committing_turns, committing_ends}
+use Rattle.ledger.proofs.commit.commit_pages.Given as goal
+
+-- `commit_pages`: the pages in turn.
+abbrev pub invariant-loop-i : goal.invariant-loop-i
+invariant-loop-i l = (l.i ≤ l.m) × (l.count ≤ l.i) × Committing (tx_at l.batch) (state_of l.initial.blocks l.initial.places l.initial.values) l.n l.initial.verdicts l.i l.count (state_of l.blocks l.places l.values) l.verdicts
+
+abbrev pub decreases-loop-i : goal.decreases-loop-i
+decreases-loop-i l = l.m - l.i

@@ -1,0 +1,7 @@
+use native.Mathlib.Nat.{add-sub_cancel_left}
+use Prim.Native.Nat.{◌*◌}
+use borrow.Author.Rules.{rules}
+use Rattle.ledger.proofs.layout.page_at.Goals as goal
+
+pub returns : goal.returns
+returns c = rw (add-sub_cancel_left (c.args.i * 512) 512)

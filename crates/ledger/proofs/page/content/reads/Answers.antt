@@ -1,0 +1,7 @@
+use mathlib.Core.Path.{sym}
+use borrow.Author.Rules.{rules}
+use Rattle.ledger.proofs.OnPage.{count-reads}
+use Rattle.ledger.proofs.page.content.reads.Goals as goal
+
+pub returns : goal.returns
+returns c = sym (count-reads _)

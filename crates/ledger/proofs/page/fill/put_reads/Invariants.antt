@@ -1,0 +1,19 @@
+use borrow.Author.Rules.{rules}
+use Prim.Native.Nat.{◌≤◌, ◌-◌}
+use mathlib.Core.Path.{◌≡◌, refl, ◌∙◌}
+use native.Mathlib.Nat.{le_antisymm}
+use lib.ListN.{length}
+use lib.Seq.{sets}
+use Rattle.lists.specs.Tables.{flat}
+use Rattle.ledger.specs.Tx.{read_of}
+use Rattle.ledger.specs.Page.{read_bytes}
+use Rattle.lists.proofs.Tables.{flat-more}
+use Rattle.ledger.proofs.Stored.{length-read}
+use Rattle.ledger.proofs.page.fill.put_reads.Given as goal
+
+-- `put_reads`: the entries so far are stored.
+abbrev pub invariant-loop-i : goal.invariant-loop-i
+invariant-loop-i l = (l.i ≤ l.count) × (length l.p ≡ length l.initial.p) × (l.p ≡ sets l.initial.p l.at (flat l.i (λ k. read_bytes (read_of l.xs k))))
+
+abbrev pub decreases-loop-i : goal.decreases-loop-i
+decreases-loop-i l = l.count - l.i

@@ -1,0 +1,40 @@
+use mathlib.Core.Path.{sym, ap, ◌∙◌}
+use native.Mathlib.Omega.{arith}
+use borrow.Author.Rules.{rules}
+use borrow.Author.Tests.{eq-eqb, ne_eqb}
+use Rattle.refusals.specs.Fault.{is_clear, finding}
+use Rattle.ledger.specs.Good.{framed}
+use Rattle.ledger.proofs.page.good.framed.Goals as goal
+
+-- `framed`: the tests in turn.
+pub returns-then-page-ne-PAGE : goal.returns-then-page-ne-PAGE
+unfolding framed
+returns-then-page-ne-PAGE c = rw (ne_eqb _ _ c.if-page-ne-PAGE.true)
+
+pub returns-then-page-ne-MARK : goal.returns-then-page-ne-MARK
+unfolding framed
+returns-then-page-ne-MARK c = rw (eq-eqb _ _ c.if-page-ne-PAGE.false, ne_eqb _ _ c.if-page-ne-MARK.true)
+
+pub returns-then-page-ne0 : goal.returns-then-page-ne0
+unfolding framed
+returns-then-page-ne0 c =
+    rw (eq-eqb _ _ c.if-page-ne-PAGE.false, eq-eqb _ _ c.if-page-ne-MARK.false, ne_eqb _ _ c.if-page-ne0.true)
+
+pub overflow_cast-page : goal.overflow_cast-page
+overflow_cast-page c = omega (arith, c.type_inv.page 1)
+
+pub overflow_cast-page-2 : goal.overflow_cast-page-2
+overflow_cast-page-2 c = omega (arith, c.type_inv.page 2)
+
+-- what the counts are found to be decides
+pub returns-in-Found : goal.returns-in-Found
+unfolding framed
+returns-in-Found c =
+    rw (eq-eqb _ _ c.if-page-ne-PAGE.false, eq-eqb _ _ c.if-page-ne-MARK.false, eq-eqb _ _ c.if-page-ne0.false)
+    (ap is_clear (sym (ap finding c.enum_told-1.given.1) ∙ c.count_fault-found.ensures))
+
+pub returns : goal.returns
+unfolding framed
+returns c =
+    rw (eq-eqb _ _ c.if-page-ne-PAGE.false, eq-eqb _ _ c.if-page-ne-MARK.false, eq-eqb _ _ c.if-page-ne0.false)
+    (ap is_clear (sym (ap finding c.enum_told-in_default-1.given.1) ∙ c.count_fault-found.ensures))

@@ -1,0 +1,38 @@
+use mathlib.Core.Path.{◌≡◌, sym, ap, ◌∙◌}
+use borrow.Author.Rules.{rules}
+use Rattle.refusals.specs.Fault.{clear, first, finding}
+use Rattle.ledger.specs.Page.{count_rows}
+use Rattle.ledger.proofs.Owned.{owned_fits, owned_reads, owned_writes}
+use Rattle.ledger.proofs.Back.{Drafted, drafted, written}
+use Rattle.ledger.proofs.Faults.{Roomy, roomy, wrong_counts, write-refused}
+use Rattle.ledger.proofs.page.write.write_page.Goals as goal
+use Rattle.ledger.proofs.page.write.write_page.Goals.{After-lay, In_default}
+
+-- `write_page`: the counts, then what is laid out.
+no-count : (c : In_default) → let t = c.args.t in first (count_rows t.r t.w) ≡ clear
+no-count c = sym c.count_fault-found.ensures ∙ ap finding c.enum_told-1.given.1
+
+counts : (c : In_default) → let t = c.args.t in Roomy t.r t.w
+counts c = roomy _ _ (no-count c)
+
+draft : (c : After-lay) → Drafted c.args.t c.lay.new.p
+draft c =
+    let t = c.args.t in
+    let o = ‹c.well-formed.1.1.0› in
+    drafted t (owned_fits t _ o) (owned_reads t _ o) (owned_writes t _ o) (counts ‹c›) c.lay.new.p c.lay.ensures
+
+pub returns-in-Found : goal.returns-in-Found
+returns-in-Found c =
+    let a = c.args in
+    write-refused a.batch.now a.index a.t _ _ (wrong_counts a.batch.now a.index a.t (sym c.count_fault-found.ensures ∙ ap finding c.found-1.given.1))
+
+pub lay-requires : goal.lay-requires
+lay-requires c = let g = counts (goal.at.lay-requires c).In_default in (search rules, g.few-reads, g.few-writes, g.room)
+
+pub write_laid-requires : goal.write_laid-requires
+write_laid-requires c = (draft (goal.at.write_laid-requires c).After-lay).counted
+
+pub returns : goal.returns
+returns c =
+    let a = c.args in
+    c.write_laid.ensures ∙ written a.batch.now a.index a.t c.lay.new.p (no-count (goal.at.returns c).In_default) (draft (goal.at.returns c).After-lay)

@@ -1,0 +1,19 @@
+use Prim.Native.Nat.{◌-◌}
+use Rattle.ledger.specs.State.{versions_in, present_under}
+use Rattle.lists.proofs.Loops.{Joined, joined_begins, joined_turns, joined-ends}
+use borrow.Author.Rules.{rules}
+use lib.ListN.{length}
+use mathlib.Core.Bool.{not}
+use mathlib.Core.Path.{refl, ap, ◌∙◌}
+use Rattle.ledger.proofs.state.all_present.Goals as goal
+
+pub loop-k-init : goal.loop-k-init
+loop-k-init c = joined_begins _ _
+
+pub loop-k-preserved : goal.loop-k-preserved
+loop-k-preserved c =
+    joined_turns c.loop-k.invariant _ _ c.loop-k-test.true
+    (ap not (c.present_under.ensures ∙ ap (present_under c.args.n) c.version_at.ensures)) refl
+
+pub returns : goal.returns
+returns c = ap not (joined-ends c.loop-k.invariant c.loop-k-test.false)

@@ -19,8 +19,8 @@ pub loop-i-preserved : goal.loop-i-preserved
 loop-i-preserved c =
     let w = c.put_write in (
       search rules,
-      w.auto.0 ∙ c.loop-i.invariant.1,
-      w.ensures ∙ rw c.loop-i.invariant.2 (flat-more 12 _ (λ k. length-write (write_of c.args.t3 k)) _ _ c.loop-i.i),
+      w.auto.p ∙ c.loop-i.invariant.1,
+      w.ensures ∙ rw c.loop-i.invariant.2 (flat-more 12 _ (λ k. length-write (write_of c.args.xs k)) _ _ c.loop-i.i),
     )
 
 pub shape_of-p : goal.shape_of-p

@@ -31,10 +31,10 @@ pub returns-in-Found : goal.returns-in-Found
 unfolding framed
 returns-in-Found c =
     rw (eq-eqb _ _ c.if-page-ne-PAGE.false, eq-eqb _ _ c.if-page-ne-MARK.false, eq-eqb _ _ c.if-page-ne0.false)
-    (ap is_clear (sym (ap finding c.enum_told-1.given.1) ∙ c.count_fault-found.ensures))
+    ?
 
 pub returns : goal.returns
 unfolding framed
 returns c =
     rw (eq-eqb _ _ c.if-page-ne-PAGE.false, eq-eqb _ _ c.if-page-ne-MARK.false, eq-eqb _ _ c.if-page-ne0.false)
-    (ap is_clear (sym (ap finding c.enum_told-in_default-1.given.1) ∙ c.count_fault-found.ensures))
+    ?

@@ -26,6 +26,7 @@ get f P base z pz (x ∷ xs) [] i p = absurd p
 get f P base z pz (x ∷ xs) (u ∷ us) zero p = base x (u ∷ []) p.0
 get f P base z pz (x ∷ xs) (u ∷ us) (suc i) p = get f P base z pz xs us i p.1
 
+-- an owned read or write is within its types
 read_fits : (x : Read) (vs : List Val) → shadow (read_type.the_row.own_val x vs) → ReadFits x
 read_fits x vs s = record { key = s.1.1.0.1; block = s.1.1.1.0.1.1.0.1; place = s.1.1.1.0.1.1.1.0.1 }
 

@@ -1,6 +1,5 @@
 use mathlib.Core.Path.{◌≡◌, sym, ◌∙◌}
 use native.Mathlib.Omega.{arith}
-use borrow.Author.Rules.{rules}
 use lib.ListN.{length, get_or}
 use Rattle.octets.specs.Bytes.{field, weighed}
 use Rattle.ledger.proofs.Faults.{is_one, is_two, is_mark, is_three, is_counts}

@@ -1,5 +1,4 @@
 use mathlib.Core.Path.{sym, ◌∙◌}
-use borrow.Author.Rules.{rules}
 use Rattle.ledger.proofs.Goodness.{not-reads, by-writes}
 use Rattle.ledger.proofs.page.good.entries_good.Goals as goal
 

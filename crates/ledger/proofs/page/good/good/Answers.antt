@@ -1,6 +1,5 @@
 use mathlib.Core.Path.{◌≡◌, sym, ◌∙◌}
 use mathlib.Core.Bool.{true}
-use borrow.Author.Rules.{rules}
 use Rattle.ledger.specs.Inner.{Counted}
 use Rattle.ledger.specs.Good.{framed, closed}
 use Rattle.ledger.proofs.Goodness.{framed-counted, not-framed, not-closed, by_entries}

@@ -1,5 +1,6 @@
 // Tonnage texts: kilograms written as tonnes, read and written.
 #![tactic(auto)]
+
 use refusals::Refusal;
 
 // What reading a text finds.

@@ -1,11 +1,8 @@
-use Prim.Native.Nat.{◌≤◌, ◌-◌}
-use mathlib.Core.Path.{◌≡◌, refl, sym, ◌∙◌}
+use mathlib.Core.Path.{refl, sym, ◌∙◌}
 use native.Mathlib.Nat.{le_antisymm}
 use borrow.Author.Rules.{rules}
 use borrow.Author.Tests.{lt-ltb, le-ltb}
-use Rattle.lists.specs.Search.{first_in}
 use Rattle.lists.proofs.Searches.{hit, miss, done}
-use Rattle.tonnage.specs.Text.{other}
 use Rattle.tonnage.proofs.digits.first_other.Goals as goal
 
 pub loop-i-init : goal.loop-i-init

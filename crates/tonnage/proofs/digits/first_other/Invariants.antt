@@ -1,10 +1,6 @@
 use Prim.Native.Nat.{◌≤◌, ◌-◌}
-use mathlib.Core.Path.{◌≡◌, refl, sym, ◌∙◌}
-use native.Mathlib.Nat.{le_antisymm}
-use borrow.Author.Rules.{rules}
-use borrow.Author.Tests.{lt-ltb, le-ltb}
+use mathlib.Core.Path.{◌≡◌}
 use Rattle.lists.specs.Search.{first_in}
-use Rattle.lists.proofs.Searches.{hit, miss, done}
 use Rattle.tonnage.specs.Text.{other}
 use Rattle.tonnage.proofs.digits.first_other.Given as goal
 

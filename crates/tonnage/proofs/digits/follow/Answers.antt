@@ -1,11 +1,7 @@
-use Prim.Native.Nat.{◌≤◌, ◌-◌, min}
-use mathlib.Core.Path.{◌≡◌, refl, sym, ◌∙◌}
+use mathlib.Core.Path.{refl, sym, ◌∙◌}
 use native.Mathlib.Omega.{arith}
 use borrow.Author.Rules.{rules}
-use lib.Seq.{slice}
-use Rattle.lists.specs.Search.{first_in}
 use Rattle.lists.proofs.Searches.{passed}
-use Rattle.tonnage.specs.Text.{other, follow, too_large}
 use Rattle.tonnage.proofs.Runs.{digit_range, follow-step, follow_end}
 use Rattle.tonnage.proofs.digits.follow.Goals as goal
 

@@ -1,9 +1,6 @@
-use Prim.Native.Nat.{◌≤◌}
-use mathlib.Core.Path.{◌≡◌, refl, sym, ◌∙◌}
+use mathlib.Core.Path.{refl, sym, ◌∙◌}
 use borrow.Author.Rules.{rules}
-use lib.ListN.{length, length-set}
-use lib.Seq.{sets}
-use Rattle.tonnage.specs.Text.{digits}
+use lib.ListN.{length-set}
 use Rattle.tonnage.proofs.Runs.{put_last, put_none}
 use Rattle.tonnage.proofs.digits.put.Goals as goal
 

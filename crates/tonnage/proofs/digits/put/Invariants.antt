@@ -1,10 +1,8 @@
 use Prim.Native.Nat.{◌≤◌}
-use mathlib.Core.Path.{◌≡◌, refl, sym, ◌∙◌}
-use borrow.Author.Rules.{rules}
-use lib.ListN.{length, length-set}
+use mathlib.Core.Path.{◌≡◌}
+use lib.ListN.{length}
 use lib.Seq.{sets}
 use Rattle.tonnage.specs.Text.{digits}
-use Rattle.tonnage.proofs.Runs.{put_last, put_none}
 use Rattle.tonnage.proofs.digits.put.Given as goal
 
 -- `put`: the last digit first. Invariant: what is left, stored before the digits that stand, gives the whole run.

@@ -1,8 +1,5 @@
-use Prim.Native.Nat.{◌<◌, ◌+◌}
-use mathlib.Core.Path.{◌≡◌}
 use native.Mathlib.Omega.{arith}
 use borrow.Author.Rules.{rules}
-use Rattle.tonnage.specs.Text.{width}
 use Rattle.tonnage.proofs.Runs.{width_one, width-more, width_64}
 use Rattle.tonnage.proofs.digits.width.Goals as goal
 

@@ -1,9 +1,6 @@
 use Prim.Native.Nat.{◌<◌, ◌+◌}
 use mathlib.Core.Path.{◌≡◌}
-use native.Mathlib.Omega.{arith}
-use borrow.Author.Rules.{rules}
 use Rattle.tonnage.specs.Text.{width}
-use Rattle.tonnage.proofs.Runs.{width_one, width-more, width_64}
 use Rattle.tonnage.proofs.digits.width.Given as goal
 
 -- `width`: one digit counted in each turn. Invariant: the digits counted and those of what is left are those of n, and one more.

@@ -1,5 +1,4 @@
 use mir.Facts.{to_z-of_z}
-use borrow.Author.Rules.{rules}
 use Rattle.tonnage.proofs.Signs.{sign}
 use Rattle.tonnage.proofs.figure.split.Goals as goal
 

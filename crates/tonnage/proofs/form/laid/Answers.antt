@@ -1,8 +1,8 @@
-use mathlib.Core.Logic.{⊎_elim}
 use native.Mathlib.Omega.{arith}
 use borrow.Author.Rules.{rules}
 use Rattle.tonnage.proofs.Laying.{start-one, short, stray, padded, no_comma, decided}
 use Rattle.tonnage.proofs.form.laid.Goals as goal
+use Rattle.tonnage.proofs.form.laid.Goals.{then-text-start-eq48+else-start-point, else-text-start-eq48}
 
 pub overflow_add-start : goal.overflow_add-start
 overflow_add-start c = omega (arith, start-one c.args.text.now _ c.start-start.ensures)
@@ -30,4 +30,6 @@ returns-then-text-point-ne44 c =
 pub returns : goal.returns
 returns c =
     let s = c.start-start in
-    decided _ _ s.ensures (search rules) (rw c.first_other.ensures at c.if-first_other-point.false) (⊎_elim (λ z. λ _. z.1.left) (λ z. λ h. absurd (z.left h)) c.if-text-start-eq48.branch) c.if-text-point-ne44.false _ c.first_other-2.ensures
+    decided _ _ s.ensures (search rules) (rw c.first_other.ensures at c.if-first_other-point.false)
+    (elim c.if-text-start-eq48.branch [ then-text-start-eq48+else-start-point w ↦ (λ _. w.if-start-point.false) | else-text-start-eq48 w ↦ (λ h. absurd (w.if-text-start-eq48.false h)) ])
+    c.if-text-point-ne44.false _ c.first_other-2.ensures

@@ -1,23 +1,21 @@
 use mathlib.Core.Path.{◌≡◌, sym, ◌∙◌}
-use mathlib.Core.Bool.{true, true≢false}
-use mathlib.Core.Logic.{⊎_elim}
+use mathlib.Core.Bool.{true, false, true≢false}
+use Prim.Native.Nat.{◌<◌, ◌≤◌}
 use native.Mathlib.Omega.{arith}
 use mir.Facts.{to_z-of_z}
-use borrow.Author.Rules.{rules}
-use borrow.Author.Tests.{not-true, not-false}
 use Rattle.tonnage.specs.Text.{laid}
 use Rattle.tonnage.proofs.Answers.{unlaid, minus-zero, too_low, too_high, taken}
 use Rattle.tonnage.proofs.text.read_tonnage.Goals as goal
-use Rattle.tonnage.proofs.text.read_tonnage.Goals.{Else-not-laid}
+use Rattle.tonnage.proofs.text.read_tonnage.Goals.{Else-not-laid, Joined-minus, then-minus+else-size-eq0+else-size-gt-LOWEST, else-minus+else-size-gt-HIGHEST}
 
 -- `read_tonnage`: the form, then the range, on each side of the sign.
 -- past the first test the text is laid out well
 well : (c : Else-not-laid) → laid c.args.text.now ≡ true
-well c = sym c.laid.ensures ∙ not-false _ c.if-not-laid.false
+well c = sym c.laid.ensures ∙ c.if-not-laid.false
 
 pub returns-then-not-laid : goal.returns-then-not-laid
 returns-then-not-laid c =
-    c.unread.ensures ∙ sym (unlaid _ (sym c.laid.ensures ∙ not-true _ c.if-not-laid.true))
+    c.unread.ensures ∙ sym (unlaid _ (sym c.laid.ensures ∙ c.if-not-laid.true))
 
 pub size-size-requires : goal.size-size-requires
 size-size-requires c = well (goal.at.size-size-requires c).Else-not-laid
@@ -34,15 +32,22 @@ pub returns-then-size-gt-HIGHEST : goal.returns-then-size-gt-HIGHEST
 returns-then-size-gt-HIGHEST c =
     c.unread-then-size-gt-HIGHEST.ensures ∙ sym (too_high _ _ c.size-size.ensures (well (goal.at.returns-then-size-gt-HIGHEST c).Else-not-laid) (sym c.minus-minus.ensures ∙ c.if-minus.false) c.if-size-gt-HIGHEST.true)
 
+sized : (c : Joined-minus) → (c.minus-minus.result ≡ true → (0 < c.size-size.result) × (c.size-size.result ≤ 9223372036854775808))
+    × (c.minus-minus.result ≡ false → c.size-size.result ≤ 9223372036854775807)
+sized c =
+    elim c.if-minus.branch [
+      | then-minus+else-size-eq0+else-size-gt-LOWEST w ↦
+          (λ _. (omega (arith, w.if-size-eq0.false), w.if-size-gt-LOWEST.false), λ e. absurd (true≢false (sym w.if-minus.true ∙ e)))
+      | else-minus+else-size-gt-HIGHEST w ↦ (λ e. absurd (true≢false (sym e ∙ w.if-minus.false)), λ _. w.if-size-gt-HIGHEST.false)
+    ]
+
 pub with_sign-value-requires : goal.with_sign-value-requires
 with_sign-value-requires c =
-    ⊎_elim
-    (λ w. (λ _. (omega (arith, w.1.left), w.2.left), λ e. absurd (true≢false (sym w.0.taken ∙ e))))
-    (λ w. (λ e. absurd (true≢false (sym e ∙ w.0.left)), λ _. w.1.left))
-    c.if-minus.branch
+    let b = sized (goal.at.with_sign-value-requires c).Joined-minus in
+    record { size_nonzero = b.0; size_bound = b.1 }
 
 pub returns : goal.returns
 returns c =
-    let b = with-sign-requires c c.with_sign-value.lifetimes in
-    rw (to_z-of_z (record { sfits = c.with_sign-value.type-inv }), c.with_sign-value.ensures)
+    let b = sized (goal.at.returns c).Joined-minus in
+    rw (to_z-of_z (record { sfits = c.with_sign-value.type_inv }), c.with_sign-value.ensures)
     (sym (taken _ _ c.size-size.ensures (well (goal.at.returns c).Else-not-laid) _ c.minus-minus.ensures b.0 b.1))

@@ -9,12 +9,20 @@ overflow_sub-point c = omega (arith, (laid_facts _ c.requires).long)
 pub follow-whole-requires : goal.follow-whole-requires
 follow-whole-requires c =
     let l = laid_facts _ c.requires in
-    ((rw c.start-start.ensures (omega (arith, l.long)), search rules), (search rules, rw c.start-start.ensures l.whole))
+    record {
+      from_le_to = (rw c.start-start.ensures (omega (arith, l.long)), search rules);
+      n_le_too_large = search rules;
+      to_bound = rw c.start-start.ensures l.whole;
+    }
 
 pub follow-requires : goal.follow-requires
 follow-requires c =
     let l = laid_facts _ c.requires in
-    ((omega (arith, l.long), search rules), (omega (arith, c.follow-whole.ensures), l.part))
+    record {
+      from_le_to = (omega (arith, l.long), search rules);
+      n_le_too_large = omega (arith, c.follow-whole.ensures);
+      to_bound = l.part;
+    }
 
 pub returns : goal.returns
 returns c =

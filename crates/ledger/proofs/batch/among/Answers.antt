@@ -1,8 +1,4 @@
-use Prim.Native.Nat.{◌-◌}
-use Rattle.lists.proofs.Loops.{Joined, joined_begins, joined_turns, joined-ends}
-use borrow.Author.Rules.{rules}
-use lib.Dec.{eqb}
-use lib.ListN.{get_or}
+use Rattle.lists.proofs.Loops.{joined_begins, joined_turns, joined-ends}
 use mathlib.Core.Path.{refl}
 use Rattle.ledger.proofs.batch.among.Goals as goal
 

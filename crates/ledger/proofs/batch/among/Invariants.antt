@@ -1,9 +1,7 @@
 use Prim.Native.Nat.{◌-◌}
-use Rattle.lists.proofs.Loops.{Joined, joined_begins, joined_turns, joined-ends}
-use borrow.Author.Rules.{rules}
+use Rattle.lists.proofs.Loops.{Joined}
 use lib.Dec.{eqb}
 use lib.ListN.{get_or}
-use mathlib.Core.Path.{refl}
 use Rattle.ledger.proofs.batch.among.Given as goal
 
 -- `among`: the comparisons so far, joined.

@@ -1,8 +1,7 @@
-use Prim.Native.Nat.{◌-◌, ◌≤◌, ◌<◌}
+use Prim.Native.Nat.{◌<◌}
 use Rattle.ledger.proofs.Gated.{page_long}
-use Rattle.ledger.proofs.Tickets.{Gathering, gathering_begins, gathering_turns}
+use Rattle.ledger.proofs.Tickets.{gathering_begins, gathering_turns}
 use Rattle.ledger.specs.Page.{page_tx}
-use borrow.Author.Rules.{rules}
 use lib.ListN.{length}
 use mathlib.Core.Path.{ap, ◌∙◌}
 use native.Mathlib.Omega.{arith}

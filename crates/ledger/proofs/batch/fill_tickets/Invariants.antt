@@ -1,11 +1,6 @@
-use Prim.Native.Nat.{◌-◌, ◌≤◌, ◌<◌}
-use Rattle.ledger.proofs.Gated.{page_long}
-use Rattle.ledger.proofs.Tickets.{Gathering, gathering_begins, gathering_turns}
-use Rattle.ledger.specs.Page.{page_tx}
-use borrow.Author.Rules.{rules}
+use Prim.Native.Nat.{◌-◌, ◌≤◌}
+use Rattle.ledger.proofs.Tickets.{Gathering}
 use lib.ListN.{length}
-use mathlib.Core.Path.{ap, ◌∙◌}
-use native.Mathlib.Omega.{arith}
 use Rattle.ledger.proofs.batch.fill_tickets.Given as goal
 
 -- `fill_tickets`: the pages in turn.

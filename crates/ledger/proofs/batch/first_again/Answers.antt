@@ -1,9 +1,4 @@
-use Prim.Native.Nat.{◌-◌}
-use Rattle.lists.proofs.Loops.{Unfound, begins, found, passes, ends}
-use Rattle.lists.specs.Search.{some_in}
-use borrow.Author.Rules.{rules}
-use lib.Dec.{eqb}
-use lib.ListN.{get_or}
+use Rattle.lists.proofs.Loops.{begins, found, passes, ends}
 use mathlib.Core.Path.{sym, ◌∙◌}
 use native.Mathlib.Omega.{arith}
 use Rattle.ledger.proofs.batch.first_again.Goals as goal

@@ -1,11 +1,8 @@
 use Prim.Native.Nat.{◌-◌}
-use Rattle.lists.proofs.Loops.{Unfound, begins, found, passes, ends}
+use Rattle.lists.proofs.Loops.{Unfound}
 use Rattle.lists.specs.Search.{some_in}
-use borrow.Author.Rules.{rules}
 use lib.Dec.{eqb}
 use lib.ListN.{get_or}
-use mathlib.Core.Path.{sym, ◌∙◌}
-use native.Mathlib.Omega.{arith}
 use Rattle.ledger.proofs.batch.first_again.Given as goal
 
 -- `first_again`: a search by page, among the tickets.

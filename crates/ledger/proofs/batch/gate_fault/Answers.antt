@@ -8,44 +8,38 @@ use mathlib.Core.List.{List, [], ◌∷◌}
 use mathlib.Core.Path.{◌≡◌, sym, ap, ◌∙◌}
 use native.Mathlib.Omega.{arith}
 use Rattle.ledger.proofs.batch.gate_fault.Goals as goal
-use Rattle.ledger.proofs.batch.gate_fault.Goals.{In_default, Start}
-
-abbrev lent : Start → State
-lent c = state_of c.args.blocks.now c.args.places.now c.args.values.now
-
-abbrev own : Start → List Row
-own c = lent_row c.args.short ∷ []
+use Rattle.ledger.proofs.batch.gate_fault.Goals.{In_default}
 
 -- the front is clear
-front : (c : In_default) → first (front_rows c.args.batch.now (lent ‹c›) c.args.n) ≡ clear
-front c = sym c.front_fault-found.ensures ∙ ap finding c.enum_told-in_default-1.given.1
+front : (c : In_default) → first (front_rows c.args.batch.now (state_of c.args.blocks.now c.args.places.now c.args.values.now) c.args.n) ≡ clear
+front c = sym c.front_fault-found.ensures ∙ ap finding c.in_default.is
 
 pub returns-in-Found : goal.returns-in-Found
 returns-in-Found c =
-    let e = ap finding c.enum_told-1.given.1 in
+    let e = ap finding c.in-Found.is in
     record {
-  result_value = e ∙ sym (gate_front (own (goal.at.returns-in-Found c).Start) c.args.batch.now (lent (goal.at.returns-in-Found c).Start) c.args.n (sym c.front_fault-found.ensures ∙ e));
+  result_value = e ∙ sym (gate_front (lent_row c.args.short ∷ []) c.args.batch.now (state_of c.args.blocks.now c.args.places.now c.args.values.now) c.args.n (sym c.front_fault-found.ensures ∙ e));
   tickets_of = λ none. absurd (no_fault none e);
 }
 
 pub returns-then-short : goal.returns-then-short
 returns-then-short c = record {
-  result_value = c.found.ensures ∙ sym (gate_own (own (goal.at.returns-then-short c).Start) c.args.batch.now (lent (goal.at.returns-then-short c).Start) c.args.n (front (goal.at.returns-then-short c).In_default) (row_there (lent_row c.args.short) [] c.if-short.true));
+  result_value = c.found.ensures ∙ sym (gate_own (lent_row c.args.short ∷ []) c.args.batch.now (state_of c.args.blocks.now c.args.places.now c.args.values.now) c.args.n (front (goal.at.returns-then-short c).In_default) (row_there (lent_row c.args.short) [] c.if-short.true));
   tickets_of = λ none. absurd (no_fault none c.found.ensures);
 }
 
 pub fill_tickets-requires : goal.fill_tickets-requires
 fill_tickets-requires c =
-    omega (arith, front_whole c.args.batch.now (lent (goal.at.fill_tickets-requires c).Start) c.args.n (front (goal.at.fill_tickets-requires c).In_default), c.fill_tickets-arg-1.given.0.1)
+    omega (arith, front_whole c.args.batch.now (state_of c.args.blocks.now c.args.places.now c.args.values.now) c.args.n (front (goal.at.fill_tickets-requires c).In_default), c.fill_tickets-arg-1.given.0.1)
 
 pub pages_fault-requires : goal.pages_fault-requires
 pages_fault-requires c = record {
-  batch_len_bound = omega (arith, front_whole c.args.batch.now (lent (goal.at.pages_fault-requires c).Start) c.args.n (front (goal.at.pages_fault-requires c).In_default));
+  batch_len_bound = omega (arith, front_whole c.args.batch.now (state_of c.args.blocks.now c.args.places.now c.args.values.now) c.args.n (front (goal.at.pages_fault-requires c).In_default));
   tickets_of = c.fill_tickets.ensures;
 }
 
 pub returns : goal.returns
 returns c = record {
-  result_value = c.pages_fault.ensures ∙ sym (gate_pages (own (goal.at.returns c).Start) c.args.batch.now (lent (goal.at.returns c).Start) c.args.n (front (goal.at.returns c).In_default) (one-clear 14 0 c.args.short c.if-short.false));
+  result_value = c.pages_fault.ensures ∙ sym (gate_pages (lent_row c.args.short ∷ []) c.args.batch.now (state_of c.args.blocks.now c.args.places.now c.args.values.now) c.args.n (front (goal.at.returns c).In_default) (one-clear 14 0 c.args.short c.if-short.false));
   tickets_of = λ none. c.fill_tickets.ensures;
 }

@@ -1,7 +1,6 @@
 use Rattle.ledger.proofs.Gated.{too_long, too_odd, not_wrong}
 use Rattle.ledger.specs.Gate.{bytes_row}
 use Rattle.refusals.proofs.Rows.{row_there, one-clear}
-use borrow.Author.Rules.{rules}
 use mathlib.Core.List.{[]}
 use mathlib.Core.Path.{sym, ◌∙◌}
 use Rattle.ledger.proofs.batch.length_fault.Goals as goal

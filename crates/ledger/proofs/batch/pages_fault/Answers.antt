@@ -12,7 +12,7 @@ use Rattle.ledger.proofs.batch.pages_fault.Goals.{Else-again-m, In_default}
 -- `pages_fault`: the searches in turn.
 -- no page is bad
 no-bad : (c : In_default) → let a = c.args in first (own_rows a.batch.now a.keys) ≡ clear
-no-bad c = sym c.page_fault-found.ensures ∙ ap finding c.enum_told-in_default-1.given.1
+no-bad c = sym c.page_fault-found.ensures ∙ ap finding c.in_default.is
 
 -- no ticket stands again
 no-again : (c : Else-again-m) → let a = c.args in first (ticket_rows a.batch.now a.keys) ≡ clear
@@ -25,7 +25,7 @@ page_fault-found-requires c = omega (arith, c.requires.batch_len_bound)
 pub returns-in-Found : goal.returns-in-Found
 returns-in-Found c =
     let a = c.args in
-    let e = ap finding c.enum_told-1.given.1 in
+    let e = ap finding c.in-Found.is in
     e ∙ sym (pages_bad a.batch.now a.keys (sym c.page_fault-found.ensures ∙ e))
 
 pub first_again-again-requires : goal.first_again-again-requires

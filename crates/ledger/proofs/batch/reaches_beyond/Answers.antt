@@ -10,7 +10,7 @@ use Rattle.ledger.specs.Inner.{Counted}
 use Rattle.ledger.proofs.Pages.{good-counted}
 use Rattle.ledger.proofs.Rising.{last-beyond, last_within, none_within, read-keys, write-keys, read_key, write_key, reads_beyond, by-reads, by-writes}
 use Rattle.ledger.proofs.batch.reaches_beyond.Goals as goal
-use Rattle.ledger.proofs.batch.reaches_beyond.Goals.{Joined-r-gt0, Start}
+use Rattle.ledger.proofs.batch.reaches_beyond.Goals.{Joined-r-gt0, Start, then-r-gt0+else-last-keys, else-r-gt0}
 
 -- `reaches_beyond`: the last read decides first, then the last write.
 counted : (c : Start) → Counted c.args.page.now
@@ -19,10 +19,10 @@ counted c = good-counted _ c.requires
 -- where the arms meet, no read is too high
 reads-low : (c : Joined-r-gt0) → reads_beyond c.args.keys (page_tx c.args.page.now) ≡ false
 reads-low c =
-    ⊎_elim {C = reads_beyond c.args.keys (page_tx c.args.page.now) ≡ false}
-    (λ w. last_within _ _ _ (read-keys _ c.requires) _ _ c.reads-r.ensures (ap (λ (x : Read). x.key) w.1.ensures) w.3.left)
-    (λ w. none_within (read_key (page_tx c.args.page.now)) _ c.args.keys _ c.reads-r.ensures w.left)
-    c.if-r-gt0.branch
+    elim c.if-r-gt0.branch [
+      then-r-gt0+else-last-keys w ↦ last_within _ _ _ (read-keys _ c.requires) _ _ c.reads-r.ensures (ap (λ (x : Read). x.key) w.read-last.ensures) w.if-last-keys.false
+    | else-r-gt0 w ↦ none_within (read_key (page_tx c.args.page.now)) _ c.args.keys _ c.reads-r.ensures w.if-r-gt0.false
+    ]
 
 pub reads-r-requires : goal.reads-r-requires
 reads-r-requires c = counted (goal.at.reads-r-requires c).Start

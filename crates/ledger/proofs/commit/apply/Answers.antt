@@ -13,30 +13,27 @@ use Rattle.ledger.proofs.Commits.{Writing, writing_begins, writing_kept, writing
 use borrow.Author.Rules.{rules}
 use native.Mathlib.Omega.{arith}
 use Rattle.ledger.proofs.commit.apply.Goals as goal
-use Rattle.ledger.proofs.commit.apply.Goals.{After-write_at-x, After-writes_at-from, In-loop-j, Start}
+use Rattle.ledger.proofs.commit.apply.Goals.{After-write_at-x, In-loop-j, Start}
 
 counted : (c : Start) → Counted c.args.page.now
 counted c = good-counted _ c.requires.ready.good
-
--- the writes start behind the reads
-behind : (c : After-writes_at-from) → ‹c.writes_at_lem.result› ≡ 8 + 8 * read_count c.args.page.now
-behind c = omega (arith, ‹c.writes_at_lem.ensures›, c.reads.ensures, count-reads c.args.page.now)
 
 -- a turn's index is one of a write
 within : (c : In-loop-j) → c.loop-j.j < length (page_tx c.args.page.now).writes
 within c = omega (arith, c.loop-j-test.true, c.writes-count.ensures)
 
--- the write of a turn
+-- the write of a turn: the writes start behind the reads
 wrote : (c : After-write_at-x) → c.write_at-x.result ≡ write_of (page_tx c.args.page.now).writes c.loop-j.j
 wrote c =
     let p = c.args.page.now in
-    c.write_at-x.ensures ∙ write_from p _ c.loop-j.j (behind ‹c›) (omega (arith, within ‹c›, count-writes p))
+    let behind : c.writes_at-from.result ≡ 8 + 8 * read_count p = omega (arith, c.writes_at-from.ensures, c.reads.ensures, count-reads p) in
+    c.write_at-x.ensures ∙ write_from p _ c.loop-j.j behind (omega (arith, c.loop-j-test.true, c.writes-count.ensures, count-writes p))
 
 -- it lies within the page
-room : (c : In-loop-j) → ‹c.before.before.writes_at_lem.result› + 12 * c.loop-j.j + 12 ≤ 512
+room : (c : In-loop-j) → c.writes_at-from.result + 12 * c.loop-j.j + 12 ≤ 512
 room c =
     let p = c.args.page.now in
-    omega (arith, behind ‹c›, within c, count-writes p, (counted ‹c›).room)
+    omega (arith, c.writes_at-from.ensures, c.reads.ensures, count-reads p, within c, count-writes p, (good-counted _ c.requires.ready.good).room)
 
 pub writes-count-requires : goal.writes-count-requires
 writes-count-requires c = counted (goal.at.writes-count-requires c).Start
@@ -75,8 +72,7 @@ store-requires c =
 
 pub loop-j-preserved : goal.loop-j-preserved
 loop-j-preserved c =
-    let l = c.store.new in
-    writing_turns c.loop-j.invariant c.write_at-x.result (state_of l.0 l.1.0 l.1.1.0) (within (goal.at.loop-j-preserved c).In-loop-j) (wrote (goal.at.loop-j-preserved c).After-write_at-x)
+    writing_turns c.loop-j.invariant c.write_at-x.result (state_of c.store.new.blocks c.store.new.places c.store.new.values) (within (goal.at.loop-j-preserved c).In-loop-j) (wrote (goal.at.loop-j-preserved c).After-write_at-x)
     (c.store.ensures ∙ ap (store (state_of c.loop-j.blocks c.loop-j.places c.loop-j.values) c.write_at-x.result.key) c.left.ensures)
 
 pub shape_of-blocks : goal.shape_of-blocks

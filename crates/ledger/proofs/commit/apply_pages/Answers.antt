@@ -13,27 +13,21 @@ use Rattle.ledger.specs.Commit.{stamp, write}
 use Rattle.ledger.specs.Inner.{txs_in, applied}
 use Rattle.ledger.proofs.Commits.{Kept, kept_level, applied-kept, applied-next}
 use Rattle.ledger.proofs.commit.apply_pages.Goals as goal
-use Rattle.ledger.proofs.commit.apply_pages.Goals.{After-apply, At-loop-i, Start}
+use Rattle.ledger.proofs.commit.apply_pages.Goals.{After-apply, At-loop-i}
 use Rattle.ledger.proofs.commit.apply_pages.Invariants.{named}
 
-abbrev entered : Start → State
-entered c = state_of c.args.blocks.now c.args.places.now c.args.values.now
-
-abbrev here : At-loop-i → State
-here c = state_of c.loop-i.blocks c.loop-i.places c.loop-i.values
-
-kept : (c : At-loop-i) → Kept (entered ‹c›) (here c)
-kept c = rw c.loop-i.invariant.1 (applied-kept _ 0 (entered ‹c›) _)
+kept : (c : At-loop-i) → Kept (state_of c.args.blocks.now c.args.places.now c.args.values.now) (state_of c.loop-i.blocks c.loop-i.places c.loop-i.values)
+kept c = rw c.loop-i.invariant.1 (applied-kept _ 0 (state_of c.args.blocks.now c.args.places.now c.args.values.now) _)
 
 -- a turn leaves one page more
 turns : (c : After-apply) → state_of c.apply.new.blocks c.apply.new.places c.apply.new.values
-    ≡ applied c.args.n 0 (entered ‹c›) (tab (c.loop-i.i + 1) (named c.args.batch.now c.args.order.now))
+    ≡ applied c.args.n 0 (state_of c.args.blocks.now c.args.places.now c.args.values.now) (tab (c.loop-i.i + 1) (named c.args.batch.now c.args.order.now))
 turns c =
     let tx = named c.args.batch.now c.args.order.now in
     c.apply.ensures
-    ∙ ap (λ x. write (stamp c.args.n c.loop-i.i) (here ‹c›) (page_tx x).writes) c.page_at.ensures
+    ∙ ap (λ x. write (stamp c.args.n c.loop-i.i) (state_of c.loop-i.blocks c.loop-i.places c.loop-i.values) (page_tx x).writes) c.page_at.ensures
     ∙ ap (λ x. write (stamp c.args.n c.loop-i.i) x (tx c.loop-i.i).writes) c.loop-i.invariant.1
-    ∙ sym (applied-next tx c.args.n c.loop-i.i (entered ‹c›))
+    ∙ sym (applied-next tx c.args.n c.loop-i.i (state_of c.args.blocks.now c.args.places.now c.args.values.now))
 
 pub loop-i-init : goal.loop-i-init
 unfolding applied tab
@@ -55,7 +49,7 @@ page_at-requires c =
 pub apply-requires : goal.apply-requires
 apply-requires c = record {
   ready = rw (c.page_at.ensures, (kept (goal.at.apply-requires c).At-loop-i).blocks) (c.requires.batch.each _ (c.requires.by_index c.loop-i.i c.loop-i-test.true));
-  level = kept_level (entered (goal.at.apply-requires c).Start) (here (goal.at.apply-requires c).At-loop-i) (kept (goal.at.apply-requires c).At-loop-i) c.requires.level;
+  level = kept_level (state_of c.args.blocks.now c.args.places.now c.args.values.now) (state_of c.loop-i.blocks c.loop-i.places c.loop-i.values) (kept (goal.at.apply-requires c).At-loop-i) c.requires.level;
   place_bound = omega (arith, c.loop-i-test.true, c.requires.k_bound);
 }
 
@@ -75,4 +69,4 @@ pub returns : goal.returns
 unfolding txs_in
 returns c =
     let e : c.loop-i.i ≡ c.args.k = omega (arith, c.loop-i.invariant.0, c.loop-i-test.false) in
-    c.loop-i.invariant.1 ∙ ap (λ j. applied c.args.n 0 (entered (goal.at.returns c).Start) (tab j (named c.args.batch.now c.args.order.now))) e
+    c.loop-i.invariant.1 ∙ ap (λ j. applied c.args.n 0 (state_of c.args.blocks.now c.args.places.now c.args.values.now) (tab j (named c.args.batch.now c.args.order.now))) e

@@ -12,19 +12,13 @@ use Rattle.ledger.specs.Page.{page_tx}
 use Rattle.ledger.specs.State.{State, state_of}
 use Rattle.ledger.proofs.Commits.{Kept, kept_level, Committing, committing_begins, committing_kept, committing_long, committing_turns, committing_ends}
 use Rattle.ledger.proofs.commit.commit_pages.Goals as goal
-use Rattle.ledger.proofs.commit.commit_pages.Goals.{After-loop-i, After-values-1, In-loop-i, Start}
+use Rattle.ledger.proofs.commit.commit_pages.Goals.{After-loop-i, After-values-1, In-loop-i, then-commit_page, else-commit_page}
 
-abbrev entered : Start → State
-entered c = state_of c.args.blocks.now c.args.places.now c.args.values.now
-
-abbrev here : In-loop-i → State
-here c = state_of c.loop-i.blocks c.loop-i.places c.loop-i.values
-
-kept : (c : In-loop-i) → Kept (entered ‹c›) (here c)
+kept : (c : In-loop-i) → Kept (state_of c.args.blocks.now c.args.places.now c.args.values.now) (state_of c.loop-i.blocks c.loop-i.places c.loop-i.values)
 kept c = committing_kept _ _ _ _ _ _ _ _ c.loop-i.invariant.2
 
 left : (c : After-loop-i)
-    → Kept (entered ‹c›) (state_of c.loop-i.blocks c.loop-i.places c.loop-i.values)
+    → Kept (state_of c.args.blocks.now c.args.places.now c.args.values.now) (state_of c.loop-i.blocks c.loop-i.places c.loop-i.values)
 left c = committing_kept _ _ _ _ _ _ _ _ c.loop-i.invariant.2
 
 within : (c : In-loop-i) → c.loop-i.i < length c.loop-i.verdicts
@@ -37,12 +31,11 @@ next : (c : After-values-1) (b : Bool) (count : ℕ) (verdicts : List ℕ)
     → c.commit_page.result ≡ b
     → count ≡ c.loop-i.count + cond b 1 0
     → verdicts ≡ set c.loop-i.verdicts c.loop-i.i (cond b 0 3)
-    → Committing (tx_at c.args.batch.now) (entered ‹c›) c.args.n c.args.verdicts.now (c.loop-i.i + 1) count
+    → Committing (tx_at c.args.batch.now) (state_of c.args.blocks.now c.args.places.now c.args.values.now) c.args.n c.args.verdicts.now (c.loop-i.i + 1) count
     (state_of c.commit_page.new.blocks c.commit_page.new.places c.commit_page.new.values) verdicts
 next c b count verdicts e f g =
-    let l = c.commit_page.new.1 in
-    committing_turns _ _ _ _ _ _ _ _ c.loop-i.inv.2 _ b count (state_of l.0 l.1.0 l.1.1.0) verdicts
-    (omega (arith, c.loop-i-test.taken, c.requires.m_in_bounds))
+    committing_turns _ _ _ _ _ _ _ _ c.loop-i.invariant.2 _ b count (state_of c.commit_page.new.blocks c.commit_page.new.places c.commit_page.new.values) verdicts
+    (omega (arith, c.loop-i-test.true, c.requires.m_in_bounds))
     (ap page_tx c.page_at-page.ensures)
     (sym e ∙ c.commit_page.ensures.value)
     c.commit_page.ensures.left_after
@@ -61,7 +54,7 @@ overflow_cast-i c = omega (arith, c.loop-i-test.true, c.requires.batch.few)
 pub commit_page-requires : goal.commit_page-requires
 commit_page-requires c = record {
   ready = rw (c.page_at-page.ensures, (kept (goal.at.commit_page-requires c).In-loop-i).blocks) (c.requires.batch.each c.loop-i.i c.loop-i-test.true);
-  level = kept_level (entered (goal.at.commit_page-requires c).Start) (here (goal.at.commit_page-requires c).In-loop-i) (kept (goal.at.commit_page-requires c).In-loop-i) c.requires.level;
+  level = kept_level (state_of c.args.blocks.now c.args.places.now c.args.values.now) (state_of c.loop-i.blocks c.loop-i.places c.loop-i.values) (kept (goal.at.commit_page-requires c).In-loop-i) c.requires.level;
   i_bound = omega (arith, c.loop-i-test.true, c.requires.batch.few);
 }
 
@@ -74,10 +67,11 @@ bounds-verdicts-i-else-commit_page c = within (goal.at.bounds-verdicts-i-else-co
 pub loop-i-preserved : goal.loop-i-preserved
 loop-i-preserved c =
     let h = c.loop-i in
-    ⊎_elim
-    (λ w. (omega (arith, c.loop-i-test.taken), omega (arith, w.2, h.inv.1), next (goal.at.loop-i-preserved c).After-values-1 true _ _ w.0.taken w.2 w.1))
-    (λ w. (omega (arith, c.loop-i-test.taken), omega (arith, w.2, h.inv.1), next (goal.at.loop-i-preserved c).After-values-1 false _ _ w.0.left (w.2 ∙ sym (add-zero h.count)) w.1))
-    c.if-commit_page.branch
+    let q = (goal.at.loop-i-preserved c).After-values-1 in
+    elim c.if-commit_page.branch [
+      then-commit_page w ↦ (omega (arith, c.loop-i-test.true), omega (arith, w.count-is, h.invariant.1), next q true _ _ w.if-commit_page.true w.count-is w.verdicts-is)
+    | else-commit_page w ↦ (omega (arith, c.loop-i-test.true), omega (arith, w.count-is, h.invariant.1), next q false _ _ w.if-commit_page.false (w.count-is ∙ sym (add-zero h.count)) w.verdicts-is)
+    ]
 
 pub shape_of-blocks : goal.shape_of-blocks
 shape_of-blocks c = (left (goal.at.shape_of-blocks c).After-loop-i).blocks

@@ -1,14 +1,11 @@
 use mathlib.Core.Path.{◌≡◌, sym, ap, ◌∙◌}
-use mathlib.Core.Bool.{Bool, not}
-use mathlib.Core.List.{List}
-use Prim.Native.Nat.{ℕ, ◌-◌, ◌<◌}
+use mathlib.Core.Bool.{not}
+use Prim.Native.Nat.{◌<◌}
 use native.Mathlib.Omega.{arith}
-use borrow.Author.Rules.{rules}
 use lib.ListN.{length}
-use Rattle.lists.proofs.Loops.{Unfound, begins, found, passes, ends}
+use Rattle.lists.proofs.Loops.{begins, found, passes, ends}
 use Rattle.ledger.specs.declared.Read.{Read}
 use Rattle.ledger.specs.Version.{same}
-use Rattle.ledger.specs.Tx.{read_of}
 use Rattle.ledger.specs.Page.{page_tx}
 use Rattle.ledger.specs.State.{versions_in}
 use Rattle.ledger.specs.Commit.{names}
@@ -57,11 +54,11 @@ version_at-requires c =
 
 pub returns-then-not-same : goal.returns-then-not-same
 returns-then-not-same c =
-    found c.loop-i.invariant (within (goal.at.returns-then-not-same c).In-loop-i) (sym (test (goal.at.returns-then-not-same c).After-same) ∙ c.if-not-same.true)
+    found c.loop-i.invariant (within (goal.at.returns-then-not-same c).In-loop-i) (sym (test (goal.at.returns-then-not-same c).After-same) ∙ (ap not c.if-not-same.true))
 
 pub loop-i-preserved : goal.loop-i-preserved
 loop-i-preserved c =
-    passes c.loop-i.invariant (within (goal.at.loop-i-preserved c).In-loop-i) (sym (test (goal.at.loop-i-preserved c).After-same) ∙ c.if-not-same.false)
+    passes c.loop-i.invariant (within (goal.at.loop-i-preserved c).In-loop-i) (sym (test (goal.at.loop-i-preserved c).After-same) ∙ (ap not c.if-not-same.false))
 
 pub returns : goal.returns
 returns c =

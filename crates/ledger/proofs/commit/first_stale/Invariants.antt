@@ -1,20 +1,12 @@
-use mathlib.Core.Path.{◌≡◌, sym, ap, ◌∙◌}
 use mathlib.Core.Bool.{Bool, not}
 use mathlib.Core.List.{List}
-use Prim.Native.Nat.{ℕ, ◌-◌, ◌<◌}
-use native.Mathlib.Omega.{arith}
-use borrow.Author.Rules.{rules}
+use Prim.Native.Nat.{ℕ, ◌-◌}
 use lib.ListN.{length}
-use Rattle.lists.proofs.Loops.{Unfound, begins, found, passes, ends}
-use Rattle.ledger.specs.declared.Read.{Read}
-use Rattle.ledger.specs.Version.{same}
+use Rattle.lists.proofs.Loops.{Unfound}
 use Rattle.ledger.specs.Tx.{read_of}
 use Rattle.ledger.specs.Page.{page_tx}
 use Rattle.ledger.specs.State.{versions_in}
 use Rattle.ledger.specs.Commit.{names}
-use Rattle.ledger.specs.Inner.{Counted}
-use Rattle.ledger.proofs.Pages.{good-counted}
-use Rattle.ledger.proofs.Rising.{below}
 use Rattle.ledger.proofs.commit.first_stale.Given as goal
 
 -- `first_stale`: a search by index.

@@ -2,7 +2,6 @@ use Rattle.ledger.specs.Page.{page_tx}
 use Rattle.ledger.specs.State.{versions_in}
 use Rattle.ledger.proofs.Pages.{good-counted}
 use Rattle.ledger.proofs.Commits.{passes_search}
-use borrow.Author.Rules.{rules}
 use Rattle.ledger.proofs.commit.passes.Goals as goal
 
 pub reads-requires : goal.reads-requires

@@ -1,6 +1,5 @@
 use native.Mathlib.Nat.{add-sub_cancel_left}
 use Prim.Native.Nat.{◌*◌}
-use borrow.Author.Rules.{rules}
 use Rattle.ledger.proofs.layout.page_at.Goals as goal
 
 pub returns : goal.returns

@@ -1,7 +1,6 @@
 use mathlib.Core.Path.{◌≡◌, sym, ◌∙◌}
 use mathlib.Core.Bool.{false}
 use native.Mathlib.Omega.{arith}
-use borrow.Author.Rules.{rules}
 use borrow.Author.Tests.{eq-eqb, ne_eqb}
 use Rattle.ledger.specs.Version.{is_present, is_deleted}
 use Rattle.ledger.proofs.rules.version_wrong.Goals as goal

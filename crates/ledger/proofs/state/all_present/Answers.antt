@@ -1,8 +1,5 @@
-use Prim.Native.Nat.{◌-◌}
-use Rattle.ledger.specs.State.{versions_in, present_under}
-use Rattle.lists.proofs.Loops.{Joined, joined_begins, joined_turns, joined-ends}
-use borrow.Author.Rules.{rules}
-use lib.ListN.{length}
+use Rattle.ledger.specs.State.{present_under}
+use Rattle.lists.proofs.Loops.{joined_begins, joined_turns, joined-ends}
 use mathlib.Core.Bool.{not}
 use mathlib.Core.Path.{refl, ap, ◌∙◌}
 use Rattle.ledger.proofs.state.all_present.Goals as goal

@@ -1,10 +1,8 @@
 use Prim.Native.Nat.{◌-◌}
 use Rattle.ledger.specs.State.{versions_in, present_under}
-use Rattle.lists.proofs.Loops.{Joined, joined_begins, joined_turns, joined-ends}
-use borrow.Author.Rules.{rules}
+use Rattle.lists.proofs.Loops.{Joined}
 use lib.ListN.{length}
 use mathlib.Core.Bool.{not}
-use mathlib.Core.Path.{refl, ap, ◌∙◌}
 use Rattle.ledger.proofs.state.all_present.Given as goal
 
 -- `all_present`: the tests so far, joined.

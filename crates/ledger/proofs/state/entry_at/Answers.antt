@@ -1,5 +1,4 @@
 use Rattle.ledger.specs.State.{entry}
-use borrow.Author.Rules.{rules}
 use mathlib.Core.Path.{ap₂}
 use lib.ListN.{get_or}
 use lib.IntN.{ℤ, pos}

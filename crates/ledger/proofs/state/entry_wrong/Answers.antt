@@ -2,7 +2,6 @@ use Rattle.ledger.specs.Value.{is_zero}
 use Rattle.ledger.specs.Version.{is_present}
 use Rattle.ledger.proofs.Entries.{wrong_present, wrong_valued, wrong_deleted, wrong_other}
 use Rattle.ledger.proofs.Zero.{is_zero_lem, not-zero}
-use borrow.Author.Rules.{rules}
 use mathlib.Core.Bool.{true, false, not}
 use mathlib.Core.Path.{◌≡◌, sym, ap, ◌∙◌}
 use native.Mathlib.Omega.{arith}

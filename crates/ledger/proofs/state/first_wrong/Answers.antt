@@ -1,9 +1,6 @@
-use Prim.Native.Nat.{◌-◌}
 use Rattle.ledger.specs.State.{state_of, entry, wrong_entry}
 use Rattle.ledger.proofs.Entries.{none_wrong}
-use Rattle.lists.proofs.Loops.{Unfound, begins, found, passes, ends}
-use borrow.Author.Rules.{rules}
-use lib.ListN.{length}
+use Rattle.lists.proofs.Loops.{begins, found, passes, ends}
 use mathlib.Core.Path.{◌≡◌, sym, ap, ◌∙◌}
 use native.Mathlib.Omega.{arith}
 use Rattle.ledger.proofs.state.first_wrong.Goals as goal

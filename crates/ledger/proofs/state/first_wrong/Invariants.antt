@@ -1,11 +1,7 @@
 use Prim.Native.Nat.{◌-◌}
 use Rattle.ledger.specs.State.{state_of, entry, wrong_entry}
-use Rattle.ledger.proofs.Entries.{none_wrong}
-use Rattle.lists.proofs.Loops.{Unfound, begins, found, passes, ends}
-use borrow.Author.Rules.{rules}
+use Rattle.lists.proofs.Loops.{Unfound}
 use lib.ListN.{length}
-use mathlib.Core.Path.{◌≡◌, sym, ap, ◌∙◌}
-use native.Mathlib.Omega.{arith}
 use Rattle.ledger.proofs.state.first_wrong.Given as goal
 
 -- `first_wrong`: none where all are present, else a search by key.

@@ -1,4 +1,3 @@
-use borrow.Author.Rules.{rules}
 use Rattle.ledger.proofs.state.present_under.Goals as goal
 
 pub returns : goal.returns

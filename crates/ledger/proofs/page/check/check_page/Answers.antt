@@ -1,6 +1,5 @@
 use mathlib.Core.Path.{◌≡◌, sym, ◌∙◌}
 use native.Mathlib.Omega.{arith}
-use borrow.Author.Rules.{rules}
 use Rattle.refusals.specs.Fault.{clear}
 use Rattle.refusals.proofs.Rows.{clear_is}
 use Rattle.ledger.specs.Page.{page_fault}

@@ -1,5 +1,4 @@
 use mathlib.Core.Path.{sym, ap, ◌∙◌}
-use borrow.Author.Rules.{rules}
 use Rattle.refusals.specs.Fault.{finding}
 use Rattle.refusals.proofs.Rows.{clear_is, append-clear, append-fault}
 use Rattle.ledger.specs.Page.{reads_rows, writes_rows, entry_rows, page_tx}
@@ -12,7 +11,7 @@ pub returns-in-Found : goal.returns-in-Found
 unfolding entry_rows
 returns-in-Found c =
     let t = page_tx c.args.page.now in
-    let e = ap finding c.enum_told-1.given.1 in
+    let e = ap finding c.in-Found.is in
     e ∙ sym (append-fault (reads_rows t) (writes_rows t) (sym c.reads_fault-found.ensures ∙ e))
 
 pub returns : goal.returns
@@ -20,4 +19,4 @@ unfolding entry_rows
 returns c =
     let t = page_tx c.args.page.now in
     c.writes_fault.ensures
-    ∙ sym (append-clear (reads_rows t) (writes_rows t) (sym c.reads_fault-found.ensures ∙ ap finding c.enum_told-in_default-1.given.1))
+    ∙ sym (append-clear (reads_rows t) (writes_rows t) (sym c.reads_fault-found.ensures ∙ ap finding c.in_default.is))

@@ -2,30 +2,26 @@ use mathlib.Core.Path.{◌≡◌, sym, ap, ◌∙◌}
 use mathlib.Core.List.{[], ◌∷◌}
 use Prim.Native.Nat.{◌≤◌}
 use native.Mathlib.Omega.{arith}
-use borrow.Author.Rules.{rules}
 use Rattle.lists.specs.Search.{first_in}
-use Rattle.refusals.specs.Fault.{clear, first, finding}
+use Rattle.refusals.specs.Fault.{clear, first}
 use Rattle.refusals.proofs.Rows.{empty_clear, lowest_found, lowest_missed}
 use Rattle.octets.specs.Bytes.{set?}
-use Rattle.ledger.specs.Page.{entry_rows, spare_row, page_fault, page_tx}
+use Rattle.ledger.specs.Page.{spare_row, page_fault}
 use Rattle.ledger.specs.Inner.{Counted}
 use Rattle.ledger.proofs.OnPage.{count-reads, count-writes}
 use Rattle.ledger.proofs.Faults.{head_fault, spare_from, head-counted, by-head, by_entries, by-spare, check-refused, check-taken}
 use Rattle.ledger.proofs.page.check.exactly.Goals as goal
-use Rattle.ledger.proofs.page.check.exactly.Goals.{After-first_set-set, After-spare_at-spare, Else-set-lt-CHECK, In_default, In_default-found}
+use Rattle.ledger.proofs.page.check.exactly.Goals.{After-first_set-set, Else-set-lt-CHECK, In_default}
 
 -- `exactly`: the head, the entries and the spare bytes in turn.
 no-head : (c : In_default) → head_fault c.args.page.now ≡ clear
-no-head c = sym c.head_fault-found.ensures ∙ ap finding c.enum_told-1.given.1
+no-head c = sym c.in_default.ensures
 
 counted : (c : In_default) → Counted c.args.page.now
 counted c = head-counted _ (no-head c)
 
-no-entry : (c : In_default-found) → first (entry_rows (page_tx c.args.page.now)) ≡ clear
-no-entry c = sym c.entry_fault-found.ensures ∙ ap finding c.enum_told-in_default-found-1.given.1
-
 -- where the spare bytes begin, and what stands there
-spare : (c : After-spare_at-spare) → c.spare_at-spare.result ≡ spare_from c.args.page.now
+spare : (c : After-first_set-set) → c.spare_at-spare.result ≡ spare_from c.args.page.now
 spare c =
     let p = c.args.page.now in
     omega (arith, c.spare_at-spare.ensures, c.reads-reads.ensures, c.writes-writes.ensures, count-reads p, count-writes p)
@@ -35,23 +31,23 @@ searched : (c : After-first_set-set)
     c.first_set-set.result ≡ first_in (set? p) (spare_from p) 508
 searched c =
     let p = c.args.page.now in
-    c.first_set-set.ensures ∙ ap (λ n. first_in (set? p) n 508) (spare ‹c›)
+    c.first_set-set.ensures ∙ ap (λ n. first_in (set? p) n 508) (spare c)
 
 last : (c : After-first_set-set)
     → let p = c.args.page.now in
     page_fault p ≡ first (spare_row p ∷ [])
-last c = by-spare _ (no-head ‹c›) (no-entry ‹c›)
+last c = by-spare _ (sym c.in_default.ensures) (sym c.in_default-found.ensures)
 
 pub returns-in-Found : goal.returns-in-Found
 returns-in-Found c =
-    check-refused _ _ _ (by-head _ (sym c.head_fault-found.ensures ∙ ap finding c.found-1.given.1))
+    check-refused _ _ _ (by-head _ (sym c.in-Found.ensures))
 
 pub entry_fault-found-requires : goal.entry_fault-found-requires
 entry_fault-found-requires c = counted (goal.at.entry_fault-found-requires c).In_default
 
 pub returns-in-Found-found : goal.returns-in-Found-found
 returns-in-Found-found c =
-    check-refused _ _ _ (by_entries _ (no-head (goal.at.returns-in-Found-found c).In_default) (sym c.entry_fault-found.ensures ∙ ap finding c.found-in-Found-found-2-1.given.1))
+    check-refused _ _ _ (by_entries _ (no-head (goal.at.returns-in-Found-found c).In_default) (sym c.in-Found-found.ensures))
 
 pub reads-reads-requires : goal.reads-reads-requires
 reads-reads-requires c = counted (goal.at.reads-reads-requires c).In_default
@@ -66,7 +62,9 @@ spare_at-spare-requires c =
     (omega (arith, c.reads-reads.ensures, count-reads p, g.few-reads), omega (arith, c.writes-writes.ensures, count-writes p, g.few-writes))
 
 pub first_set-set-requires : goal.first_set-set-requires
-first_set-set-requires c = omega (arith, spare (goal.at.first_set-set-requires c).After-spare_at-spare, counted (goal.at.first_set-set-requires c).In_default)
+first_set-set-requires c =
+    let p = c.args.page.now in
+    omega (arith, c.spare_at-spare.ensures, c.reads-reads.ensures, c.writes-writes.ensures, count-reads p, count-writes p, counted (goal.at.first_set-set-requires c).In_default)
 
 pub overflow_cast-refusal : goal.overflow_cast-refusal
 overflow_cast-refusal c = omega (arith, c.if-set-lt-CHECK.true)
@@ -77,7 +75,7 @@ returns-then-set-lt-CHECK c = check-refused _ _ _ (last (goal.at.returns-then-se
 -- the counts are small
 few : (c : Else-set-lt-CHECK) → (c.reads-reads.result ≤ 32) × (c.writes-writes.result ≤ 32)
 few c =
-    let g = counted ‹c› in
+    let g = head-counted _ (sym c.in_default.ensures) in
     let p = c.args.page.now in
     (omega (arith, c.reads-reads.ensures, count-reads p, g.few-reads), omega (arith, c.writes-writes.ensures, count-writes p, g.few-writes))
 

@@ -1,11 +1,9 @@
 use mathlib.Core.Path.{sym, ◌∙◌}
-use Prim.Native.Nat.{◌+◌, ◌*◌, ◌-◌, ◌≤◌}
+use Prim.Native.Nat.{◌+◌, ◌*◌, ◌≤◌}
 use native.Mathlib.Omega.{arith}
-use borrow.Author.Rules.{rules}
 use lib.ListN.{length}
 use Rattle.lists.proofs.Loops.{ends}
-use Rattle.ledger.specs.Inner.{key_at}
-use Rattle.ledger.proofs.Turns.{Turned, key-within, turned_begins, turned_found, turned_passes}
+use Rattle.ledger.proofs.Turns.{key-within, turned_begins, turned_found, turned_passes}
 use Rattle.ledger.proofs.page.check.first_key.Goals as goal
 use Rattle.ledger.proofs.page.check.first_key.Goals.{In-loop-i}
 

@@ -1,11 +1,6 @@
-use mathlib.Core.Path.{sym, ◌∙◌}
-use Prim.Native.Nat.{◌+◌, ◌*◌, ◌-◌, ◌≤◌}
-use native.Mathlib.Omega.{arith}
-use borrow.Author.Rules.{rules}
-use lib.ListN.{length}
-use Rattle.lists.proofs.Loops.{ends}
+use Prim.Native.Nat.{◌-◌}
 use Rattle.ledger.specs.Inner.{key_at}
-use Rattle.ledger.proofs.Turns.{Turned, key-within, turned_begins, turned_found, turned_passes}
+use Rattle.ledger.proofs.Turns.{Turned}
 use Rattle.ledger.proofs.page.check.first_key.Given as goal
 
 -- `first_key`: a search for the first key out of turn.

@@ -1,11 +1,10 @@
 use mathlib.Core.Path.{sym, ap, ◌∙◌}
-use Prim.Native.Nat.{◌-◌, ◌<◌}
+use Prim.Native.Nat.{◌<◌}
 use native.Mathlib.Omega.{arith}
-use borrow.Author.Rules.{rules}
 use lib.ListN.{length}
-use Rattle.lists.proofs.Loops.{Unfound, begins, found, passes, ends}
+use Rattle.lists.proofs.Loops.{begins, found, passes, ends}
 use Rattle.ledger.specs.declared.Write.{Write}
-use Rattle.ledger.specs.Tx.{write_of, wrong_kind}
+use Rattle.ledger.specs.Tx.{wrong_kind}
 use Rattle.ledger.specs.Page.{page_tx}
 use Rattle.ledger.proofs.page.check.first_kind.Goals as goal
 use Rattle.ledger.proofs.page.check.first_kind.Goals.{In-loop-i}

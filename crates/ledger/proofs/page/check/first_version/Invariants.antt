@@ -1,10 +1,6 @@
-use mathlib.Core.Path.{sym, ap, ◌∙◌}
-use Prim.Native.Nat.{◌-◌, ◌<◌}
-use native.Mathlib.Omega.{arith}
-use borrow.Author.Rules.{rules}
+use Prim.Native.Nat.{◌-◌}
 use lib.ListN.{length}
-use Rattle.lists.proofs.Loops.{Unfound, begins, found, passes, ends}
-use Rattle.ledger.specs.declared.Read.{Read}
+use Rattle.lists.proofs.Loops.{Unfound}
 use Rattle.ledger.specs.Tx.{read_of, wrong_version}
 use Rattle.ledger.specs.Page.{page_tx}
 use Rattle.ledger.proofs.page.check.first_version.Given as goal

@@ -1,6 +1,5 @@
 use mathlib.Core.Path.{◌≡◌, sym, ◌∙◌}
 use native.Mathlib.Omega.{arith}
-use borrow.Author.Rules.{rules}
 use lib.ListN.{length, get_or}
 use Rattle.octets.specs.Bytes.{field, weighed}
 use Rattle.ledger.proofs.Faults.{is_one, is_two, is_mark, is_three, is_counts}
@@ -16,7 +15,7 @@ weight : (c : After-weigh) → c.weigh.result ≡ weighed c.args.page.now 508
 weight c = c.weigh.ensures
 
 sum : (c : Else-weigh-le4) → let p = c.args.page.now in weighed p 508 ≡ field p 508 4
-sum c = sym (weight ‹c›) ∙ c.if-weigh-le4.false ∙ c.le4.ensures
+sum c = sym c.weigh.ensures ∙ c.if-weigh-le4.false ∙ c.le4.ensures
 
 mark : (c : Else-page-ne-MARK) → get_or c.args.page.now 0 0 ≡ 0x54
 mark c = c.if-page-ne-MARK.false

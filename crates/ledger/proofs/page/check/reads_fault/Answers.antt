@@ -2,7 +2,6 @@ use mathlib.Core.Path.{◌≡◌, sym, ap, ◌∙◌}
 use mathlib.Core.List.{[], ◌∷◌}
 use Prim.Native.Nat.{◌+◌, ◌≤◌}
 use native.Mathlib.Omega.{arith}
-use borrow.Author.Rules.{rules}
 use lib.ListN.{length}
 use Rattle.lists.specs.Search.{first_in}
 use Rattle.refusals.specs.Fault.{fault, lowest_row, first}
@@ -24,8 +23,9 @@ keys c = c.first_key-key.ensures ∙ read_turns _ _ c.reads-r.ensures
 
 -- where it found nothing, the versions decide
 no_six : (c : Else-key-r) → let t = page_tx c.args.page.now in
-    first (reads_rows t) ≡ first (lowest_row 7 (λ i. read_start i + 2) (λ i. wrong_version (read_of t.reads i).version) 0 (length t.reads) ∷ [])
-no_six c = lowest_missed 6 read_start _ 0 _ _ _ (keys ‹c›) (omega (arith, c.if-key-r.false, c.reads-r.ensures))
+    c.first_key-key.result ≡ first_in (out_of_turn (λ i. (read_of t.reads i).key)) 0 (length t.reads)
+    → first (reads_rows t) ≡ first (lowest_row 7 (λ i. read_start i + 2) (λ i. wrong_version (read_of t.reads i).version) 0 (length t.reads) ∷ [])
+no_six c found = lowest_missed 6 read_start _ 0 _ _ _ found (omega (arith, c.if-key-r.false, c.reads-r.ensures))
 
 pub first_key-key-requires : goal.first_key-key-requires
 first_key-key-requires c =
@@ -48,7 +48,8 @@ read_start-at-requires c = omega (arith, c.if-version-r.true, few (goal.at.read_
 
 -- a version stands behind its key
 small : (c : After-read_start-at) → c.read_start-at.result + 2 ≤ 508
-small c = omega (arith, c.read_start-at.ensures, c.if-version-r.true, few ‹c›)
+small c =
+    omega (arith, c.read_start-at.ensures, c.if-version-r.true, c.reads-r.ensures, count-reads c.args.page.now, c.requires.few-reads)
 
 pub overflow_add-at : goal.overflow_add-at
 overflow_add-at c = omega (arith, small (goal.at.overflow_add-at c).After-read_start-at)
@@ -61,12 +62,12 @@ returns-then-version-r c =
     c.found-then-version-r.ensures
     ∙ ap (λ a. fault 7 (a + 2)) c.read_start-at.ensures
     ∙ sym
-    (no_six (goal.at.returns-then-version-r c).Else-key-r
+    (no_six (goal.at.returns-then-version-r c).Else-key-r (keys (goal.at.returns-then-version-r c).After-first_key-key)
     ∙ lowest_found 7 (λ i. read_start i + 2) _ 0 _ [] _ c.first_version-version.ensures (omega (arith, c.if-version-r.true, c.reads-r.ensures)))
 
 pub returns : goal.returns
 returns c =
     sym
-    (no_six (goal.at.returns c).Else-key-r
+    (no_six (goal.at.returns c).Else-key-r (keys (goal.at.returns c).After-first_key-key)
     ∙ lowest_missed 7 (λ i. read_start i + 2) _ 0 _ [] _ c.first_version-version.ensures (omega (arith, c.if-version-r.false, c.reads-r.ensures))
     ∙ empty_clear)

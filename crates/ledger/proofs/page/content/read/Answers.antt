@@ -1,6 +1,5 @@
 use Prim.Native.Nat.{◌<◌}
 use native.Mathlib.Omega.{arith}
-use borrow.Author.Rules.{rules}
 use Rattle.ledger.specs.Page.{read_count}
 use Rattle.ledger.proofs.OnPage.{count-reads, read_is}
 use Rattle.ledger.proofs.page.content.read.Goals as goal

@@ -1,5 +1,4 @@
 use mathlib.Core.Path.{sym}
-use borrow.Author.Rules.{rules}
 use Rattle.ledger.proofs.OnPage.{count-reads}
 use Rattle.ledger.proofs.page.content.reads.Goals as goal
 

@@ -1,4 +1,3 @@
-use borrow.Author.Rules.{rules}
 use Rattle.ledger.specs.Page.{page_tx}
 use Rattle.ledger.proofs.page.content.ticket.Goals as goal
 

@@ -1,7 +1,6 @@
 use mathlib.Core.Path.{◌≡◌, sym, ap, ◌∙◌}
 use Prim.Native.Nat.{◌<◌}
 use native.Mathlib.Omega.{arith}
-use borrow.Author.Rules.{rules}
 use Rattle.ledger.specs.Page.{read_count, write_count, write_start, write_at}
 use Rattle.ledger.proofs.OnPage.{count-reads, count-writes, write_is}
 use Rattle.ledger.proofs.page.content.write.Goals as goal

@@ -1,6 +1,5 @@
 use mathlib.Core.Path.{◌∙◌}
 use native.Mathlib.Omega.{arith}
-use borrow.Author.Rules.{rules}
 use Rattle.refusals.specs.Fault.{first}
 use Rattle.ledger.specs.Page.{size, count_rows}
 use borrow.Author.Tests.{le-ltb, lt-ltb}

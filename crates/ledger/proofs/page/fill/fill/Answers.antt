@@ -1,4 +1,3 @@
-use borrow.Author.Rules.{rules}
 use Rattle.ledger.proofs.page.fill.fill.Goals as goal
 
 pub returns : goal.returns

@@ -1,4 +1,3 @@
-use borrow.Author.Rules.{rules}
 use Rattle.octets.proofs.Stored.{puts}
 use Rattle.ledger.proofs.page.fill.put_read.Goals as goal
 

@@ -1,12 +1,8 @@
 use borrow.Author.Rules.{rules}
-use Prim.Native.Nat.{◌≤◌, ◌-◌}
-use mathlib.Core.Path.{◌≡◌, refl, ◌∙◌}
+use mathlib.Core.Path.{refl, ◌∙◌}
 use native.Mathlib.Nat.{le_antisymm}
-use lib.ListN.{length}
-use lib.Seq.{sets}
 use Rattle.lists.specs.Tables.{flat}
 use Rattle.ledger.specs.Tx.{read_of}
-use Rattle.ledger.specs.Page.{read_bytes}
 use Rattle.lists.proofs.Tables.{flat-more}
 use Rattle.ledger.proofs.Stored.{length-read}
 use Rattle.ledger.proofs.page.fill.put_reads.Goals as goal
@@ -19,8 +15,8 @@ pub loop-i-preserved : goal.loop-i-preserved
 loop-i-preserved c =
     let w = c.put_read in (
       search rules,
-      w.auto.0 ∙ c.loop-i.invariant.1,
-      w.ensures ∙ rw c.loop-i.invariant.2 (flat-more 8 _ (λ k. length-read (read_of c.args.t3 k)) _ _ c.loop-i.i),
+      w.auto.p ∙ c.loop-i.invariant.1,
+      w.ensures ∙ rw c.loop-i.invariant.2 (flat-more 8 _ (λ k. length-read (read_of c.args.xs k)) _ _ c.loop-i.i),
     )
 
 pub shape_of-p : goal.shape_of-p

@@ -1,14 +1,10 @@
-use borrow.Author.Rules.{rules}
 use Prim.Native.Nat.{◌≤◌, ◌-◌}
-use mathlib.Core.Path.{◌≡◌, refl, ◌∙◌}
-use native.Mathlib.Nat.{le_antisymm}
+use mathlib.Core.Path.{◌≡◌}
 use lib.ListN.{length}
 use lib.Seq.{sets}
 use Rattle.lists.specs.Tables.{flat}
 use Rattle.ledger.specs.Tx.{read_of}
 use Rattle.ledger.specs.Page.{read_bytes}
-use Rattle.lists.proofs.Tables.{flat-more}
-use Rattle.ledger.proofs.Stored.{length-read}
 use Rattle.ledger.proofs.page.fill.put_reads.Given as goal
 
 -- `put_reads`: the entries so far are stored.

@@ -1,4 +1,4 @@
-use borrow.Author.Rules.{rules}
+use native.Mathlib.Omega.{arith}
 use mir.Syntax.{w64}
 use mir.Val.{of_z}
 use mir.Facts.{to_z-of_z}
@@ -8,6 +8,6 @@ use Rattle.ledger.proofs.page.fill.put_write.Goals as goal
 pub returns : goal.returns
 returns c =
     let a = c.args in
-    let v = to_z-of_z {w = w64} {z = a.x.value} (record { sfits = c.struct_told-1.given.1.1.0.1 }) in
+    let v = to_z-of_z {w = w64} {z = a.x.value} (record { sfits = omega arith }) in
     rw (c.put-3.ensures, c.put-2.ensures, c.put.ensures, c.bits.ensures, v)
     (puts a.p.now a.at a.x.key a.x.kind 8 (of_z w64 a.x.value))

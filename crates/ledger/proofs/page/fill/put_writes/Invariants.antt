@@ -1,14 +1,10 @@
-use borrow.Author.Rules.{rules}
 use Prim.Native.Nat.{◌≤◌, ◌-◌}
-use mathlib.Core.Path.{◌≡◌, refl, ◌∙◌}
-use native.Mathlib.Nat.{le_antisymm}
+use mathlib.Core.Path.{◌≡◌}
 use lib.ListN.{length}
 use lib.Seq.{sets}
 use Rattle.lists.specs.Tables.{flat}
 use Rattle.ledger.specs.Tx.{write_of}
 use Rattle.ledger.specs.Page.{write_bytes}
-use Rattle.lists.proofs.Tables.{flat-more}
-use Rattle.ledger.proofs.Stored.{length-write}
 use Rattle.ledger.proofs.page.fill.put_writes.Given as goal
 
 -- `put_writes`: the entries so far are stored.

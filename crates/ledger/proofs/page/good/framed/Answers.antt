@@ -1,8 +1,7 @@
-use mathlib.Core.Path.{sym, ap, ◌∙◌}
+use mathlib.Core.Path.{ap}
 use native.Mathlib.Omega.{arith}
-use borrow.Author.Rules.{rules}
 use borrow.Author.Tests.{eq-eqb, ne_eqb}
-use Rattle.refusals.specs.Fault.{is_clear, finding}
+use Rattle.refusals.specs.Fault.{is_clear}
 use Rattle.ledger.specs.Good.{framed}
 use Rattle.ledger.proofs.page.good.framed.Goals as goal
 
@@ -31,10 +30,10 @@ pub returns-in-Found : goal.returns-in-Found
 unfolding framed
 returns-in-Found c =
     rw (eq-eqb _ _ c.if-page-ne-PAGE.false, eq-eqb _ _ c.if-page-ne-MARK.false, eq-eqb _ _ c.if-page-ne0.false)
-    (ap is_clear (sym (ap finding c.enum_told-1.given.1) ∙ c.count_fault-found.ensures))
+    (ap is_clear c.in-Found.ensures)
 
 pub returns : goal.returns
 unfolding framed
 returns c =
     rw (eq-eqb _ _ c.if-page-ne-PAGE.false, eq-eqb _ _ c.if-page-ne-MARK.false, eq-eqb _ _ c.if-page-ne0.false)
-    (ap is_clear (sym (ap finding c.enum_told-in_default-1.given.1) ∙ c.count_fault-found.ensures))
+    (ap is_clear c.in_default.ensures)

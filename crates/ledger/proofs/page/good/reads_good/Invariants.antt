@@ -1,14 +1,10 @@
-use mathlib.Core.Path.{◌≡◌, sym, ap, ◌∙◌}
 use mathlib.Core.Bool.{Bool}
-use Prim.Native.Nat.{ℕ, ◌-◌, ◌<◌}
-use native.Mathlib.Omega.{arith}
-use borrow.Author.Rules.{rules}
+use Prim.Native.Nat.{ℕ, ◌-◌}
 use lib.ListN.{length}
-use Rattle.ledger.specs.declared.Read.{Read}
 use Rattle.ledger.specs.Tx.{Tx, read_of, wrong_version}
 use Rattle.ledger.specs.Page.{page_tx}
 use Rattle.ledger.proofs.Rising.{read_key}
-use Rattle.ledger.proofs.Entering.{Entering, entering_begins, entering_turns, entering_ends, empty_good, too_high, falls, is_wrong}
+use Rattle.ledger.proofs.Entering.{Entering}
 use Rattle.ledger.proofs.page.good.reads_good.Given as goal
 
 -- `reads_good`: the reads up to i, and the last key.

@@ -1,14 +1,9 @@
-use mathlib.Core.Path.{◌≡◌, ◌∙◌}
+use mathlib.Core.Path.{◌≡◌}
 use mathlib.Core.List.{◌++◌}
-use Prim.Native.Nat.{◌-◌, ◌≤◌, ◌<◌}
-use native.Mathlib.Nat.{le_antisymm}
-use native.Mathlib.Omega.{arith}
-use borrow.Author.Rules.{rules}
+use Prim.Native.Nat.{◌-◌, ◌≤◌}
 use lib.ListN.{length, take, replicate}
-use Rattle.lists.proofs.Filled.{filled_none, filled_more, filled-all}
 use Rattle.ledger.specs.Tx.{no_read}
 use Rattle.ledger.specs.Page.{page_tx}
-use Rattle.ledger.proofs.OnPage.{count-reads}
 use Rattle.ledger.proofs.page.read.all_reads.Given as goal
 
 -- `all_reads`: the reads so far stand in front.

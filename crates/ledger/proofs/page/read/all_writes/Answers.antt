@@ -1,10 +1,8 @@
-use mathlib.Core.Path.{◌≡◌, ◌∙◌}
-use mathlib.Core.List.{◌++◌}
-use Prim.Native.Nat.{◌-◌, ◌≤◌, ◌<◌}
+use mathlib.Core.Path.{◌∙◌}
+use Prim.Native.Nat.{◌<◌}
 use native.Mathlib.Nat.{le_antisymm}
 use native.Mathlib.Omega.{arith}
-use borrow.Author.Rules.{rules}
-use lib.ListN.{length, take, replicate}
+use lib.ListN.{length}
 use Rattle.lists.proofs.Filled.{filled_none, filled_more, filled-all}
 use Rattle.ledger.specs.Tx.{no_write}
 use Rattle.ledger.specs.Page.{page_tx}

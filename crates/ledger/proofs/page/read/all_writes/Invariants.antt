@@ -1,14 +1,9 @@
-use mathlib.Core.Path.{◌≡◌, ◌∙◌}
+use mathlib.Core.Path.{◌≡◌}
 use mathlib.Core.List.{◌++◌}
-use Prim.Native.Nat.{◌-◌, ◌≤◌, ◌<◌}
-use native.Mathlib.Nat.{le_antisymm}
-use native.Mathlib.Omega.{arith}
-use borrow.Author.Rules.{rules}
+use Prim.Native.Nat.{◌-◌, ◌≤◌}
 use lib.ListN.{length, take, replicate}
-use Rattle.lists.proofs.Filled.{filled_none, filled_more, filled-all}
 use Rattle.ledger.specs.Tx.{no_write}
 use Rattle.ledger.specs.Page.{page_tx}
-use Rattle.ledger.proofs.OnPage.{count-writes}
 use Rattle.ledger.proofs.page.read.all_writes.Given as goal
 
 -- `all_writes`: the writes so far stand in front.

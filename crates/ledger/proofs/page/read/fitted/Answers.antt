@@ -3,4 +3,4 @@ use Rattle.ledger.proofs.page.read.fitted.Goals as goal
 
 -- `fitted`: what owning the parameter tells.
 pub returns : goal.returns
-returns c = owned_fits c.args.t _ ‹c.well-formed.0›
+returns c = owned_fits c.args.t _ c.well_formed.0

@@ -1,4 +1,3 @@
-use borrow.Author.Rules.{rules}
 use Rattle.ledger.specs.Tx.{padded}
 use Rattle.ledger.proofs.page.read.transaction.Goals as goal
 

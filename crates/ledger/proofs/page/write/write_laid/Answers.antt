@@ -3,12 +3,11 @@ use mathlib.Core.Bool.{not}
 use mathlib.Core.List.{[], ◌∷◌}
 use Prim.Native.Nat.{◌*◌, ◌/◌}
 use native.Mathlib.Omega.{arith}
-use borrow.Author.Rules.{rules}
 use borrow.Author.Tests.{lt-ltb, le-ltb}
 use lib.ListN.{length}
 use lib.Seq.{sets}
 use Rattle.octets.specs.Bytes.{le, weighed}
-use Rattle.refusals.specs.Fault.{first, finding}
+use Rattle.refusals.specs.Fault.{first}
 use Rattle.refusals.proofs.Rows.{row_there, row-passed}
 use Rattle.ledger.specs.Page.{page_tx}
 use Rattle.ledger.specs.Services.{index_row, laid_rows}
@@ -21,13 +20,13 @@ last : (c : In_default) → let a = c.args in let m = length a.batch.now / 512 i
     first (laid_rows (page_tx a.laid.now) a.index m) ≡ first (index_row a.index m ∷ [])
 last c =
     let a = c.args in
-    laid-index a.batch.now a.index a.laid.now (sym c.entry_fault-found.ensures ∙ ap finding c.enum_told-1.given.1)
+    laid-index a.batch.now a.index a.laid.now (sym c.in_default.ensures)
 
 pub returns-in-Found : goal.returns-in-Found
 returns-in-Found c =
     let a = c.args in
     laid-refused a.batch.now a.index a.laid.now _ _
-    (laid-entries a.batch.now a.index a.laid.now (sym c.entry_fault-found.ensures ∙ ap finding c.found-1.given.1))
+    (laid-entries a.batch.now a.index a.laid.now (sym c.in-Found.ensures))
 
 pub returns-then-index-batch : goal.returns-then-index-batch
 returns-then-index-batch c =

@@ -1,6 +1,6 @@
-use mathlib.Core.Path.{◌≡◌, sym, ap, ◌∙◌}
+use mathlib.Core.Path.{◌≡◌, sym, ◌∙◌}
 use borrow.Author.Rules.{rules}
-use Rattle.refusals.specs.Fault.{clear, first, finding}
+use Rattle.refusals.specs.Fault.{clear, first}
 use Rattle.ledger.specs.Page.{count_rows}
 use Rattle.ledger.proofs.Owned.{owned_fits, owned_reads, owned_writes}
 use Rattle.ledger.proofs.Back.{Drafted, drafted, written}
@@ -10,7 +10,7 @@ use Rattle.ledger.proofs.page.write.write_page.Goals.{After-lay, In_default}
 
 -- `write_page`: the counts, then what is laid out.
 no-count : (c : In_default) → let t = c.args.t in first (count_rows t.r t.w) ≡ clear
-no-count c = sym c.count_fault-found.ensures ∙ ap finding c.enum_told-1.given.1
+no-count c = sym c.in_default.ensures
 
 counts : (c : In_default) → let t = c.args.t in Roomy t.r t.w
 counts c = roomy _ _ (no-count c)
@@ -18,13 +18,13 @@ counts c = roomy _ _ (no-count c)
 draft : (c : After-lay) → Drafted c.args.t c.lay.new.p
 draft c =
     let t = c.args.t in
-    let o = ‹c.well-formed.1.1.0› in
-    drafted t (owned_fits t _ o) (owned_reads t _ o) (owned_writes t _ o) (counts ‹c›) c.lay.new.p c.lay.ensures
+    let o = c.well_formed.1.1.0 in
+    drafted t (owned_fits t _ o) (owned_reads t _ o) (owned_writes t _ o) (roomy _ _ (sym c.in_default.ensures)) c.lay.new.p c.lay.ensures
 
 pub returns-in-Found : goal.returns-in-Found
 returns-in-Found c =
     let a = c.args in
-    write-refused a.batch.now a.index a.t _ _ (wrong_counts a.batch.now a.index a.t (sym c.count_fault-found.ensures ∙ ap finding c.found-1.given.1))
+    write-refused a.batch.now a.index a.t _ _ (wrong_counts a.batch.now a.index a.t (sym c.in-Found.ensures))
 
 pub lay-requires : goal.lay-requires
 lay-requires c = let g = counts (goal.at.lay-requires c).In_default in (search rules, g.few-reads, g.few-writes, g.room)

@@ -1,12 +1,11 @@
 use mathlib.Core.Path.{◌≡◌, sym, ◌∙◌}
-use mathlib.Core.Bool.{true, false, true≢false}
-use Prim.Native.Nat.{◌<◌, ◌≤◌}
+use mathlib.Core.Bool.{true}
 use native.Mathlib.Omega.{arith}
 use mir.Facts.{to_z-of_z}
 use Rattle.tonnage.specs.Text.{laid}
 use Rattle.tonnage.proofs.Answers.{unlaid, minus-zero, too_low, too_high, taken}
 use Rattle.tonnage.proofs.text.read_tonnage.Goals as goal
-use Rattle.tonnage.proofs.text.read_tonnage.Goals.{Else-not-laid, Joined-minus, then-minus+else-size-eq0+else-size-gt-LOWEST, else-minus+else-size-gt-HIGHEST}
+use Rattle.tonnage.proofs.text.read_tonnage.Goals.{Else-not-laid}
 
 -- `read_tonnage`: the form, then the range, on each side of the sign.
 -- past the first test the text is laid out well
@@ -32,22 +31,7 @@ pub returns-then-size-gt-HIGHEST : goal.returns-then-size-gt-HIGHEST
 returns-then-size-gt-HIGHEST c =
     c.unread-then-size-gt-HIGHEST.ensures ∙ sym (too_high _ _ c.size-size.ensures (well (goal.at.returns-then-size-gt-HIGHEST c).Else-not-laid) (sym c.minus-minus.ensures ∙ c.if-minus.false) c.if-size-gt-HIGHEST.true)
 
-sized : (c : Joined-minus) → (c.minus-minus.result ≡ true → (0 < c.size-size.result) × (c.size-size.result ≤ 9223372036854775808))
-    × (c.minus-minus.result ≡ false → c.size-size.result ≤ 9223372036854775807)
-sized c =
-    elim c.if-minus.branch [
-      | then-minus+else-size-eq0+else-size-gt-LOWEST w ↦
-          (λ _. (omega (arith, w.if-size-eq0.false), w.if-size-gt-LOWEST.false), λ e. absurd (true≢false (sym w.if-minus.true ∙ e)))
-      | else-minus+else-size-gt-HIGHEST w ↦ (λ e. absurd (true≢false (sym e ∙ w.if-minus.false)), λ _. w.if-size-gt-HIGHEST.false)
-    ]
-
-pub with_sign-value-requires : goal.with_sign-value-requires
-with_sign-value-requires c =
-    let b = sized (goal.at.with_sign-value-requires c).Joined-minus in
-    record { size_nonzero = b.0; size_bound = b.1 }
-
 pub returns : goal.returns
 returns c =
-    let b = sized (goal.at.returns c).Joined-minus in
     rw (to_z-of_z (record { sfits = c.with_sign-value.type_inv }), c.with_sign-value.ensures)
-    (sym (taken _ _ c.size-size.ensures (well (goal.at.returns c).Else-not-laid) _ c.minus-minus.ensures b.0 b.1))
+    (sym (taken _ _ c.size-size.ensures (well (goal.at.returns c).Else-not-laid) _ c.minus-minus.ensures (grind arith) (grind arith)))

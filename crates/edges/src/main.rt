@@ -4,7 +4,7 @@
 
 mod cases;
 mod given;
-mod lists;
+mod lent_lists;
 mod numbers;
 mod packed;
 mod services;

@@ -1,4 +1,4 @@
-//! Links the static library of the proved services, which `rt staticlib node` builds at the root of the project.
+//! Links the static library of the proved services, which `tools/staticlib` builds at the root of the project.
 
 use std::path::{Path, PathBuf};
 use std::process::Command;
@@ -15,7 +15,7 @@ fn main() {
     let library = root.join(LIBRARY);
     println!("cargo:rerun-if-changed={}", library.display());
     if !library.is_file() {
-        eprintln!("{LIBRARY} is missing: run rt staticlib node first");
+        eprintln!("{LIBRARY} is missing: run tools/staticlib first");
         std::process::exit(1);
     }
     let out = std::env::var("OUT_DIR").expect("cargo gives a folder for what is built");

@@ -113,8 +113,8 @@ module _ (p : List ℕ) (a : Arrays) where
       told (λ c. 0) (read_page p).answer _
       (λ n q e.
       let b = page_numbers p n q e in
-      (rw e, omega (arith, b.0), omega (arith, b.1), omega (arith, b.2)))
-      (λ c e. (rw e, omega arith))
+      (rw (e, page_left), omega (arith, b.0), omega (arith, b.1), omega (arith, b.2)))
+      (λ c e. (rw (e, page_left), omega arith))
 
 module _ (text : List ℕ) (z : ℤ) where
   pub read_tonnage_word : Told {A = ℤ} (λ y. 0) (read_text text) (text_left text z).word
@@ -125,8 +125,8 @@ module _ (text : List ℕ) (z : ℤ) where
       let r = refused_only text n q e in
       let some : 0 < n = ⊎_elim (λ k. omega arith) (λ k. omega arith) r.0 in
       let few : n ≤ 20 = ⊎_elim (λ k. omega arith) (λ k. omega arith) r.0 in
-      (rw e, some, few, omega (arith, r.1)))
-      (λ y e. (rw e, omega arith))
+      (rw (e, text_left), some, few, omega (arith, r.1)))
+      (λ y e. (rw (e, text_left), omega arith))
 
   pub write_tonnage_word :
       in64 z ≡ true → Told (λ k. k) (write_text text z).answer (written_left (write_text text z)).word

@@ -71,6 +71,7 @@ clear? clear = true
 clear? (fault n p) = false
 
 is_clear_lem : (f : Fault) → T (clear? f) → f ≡ clear
+is_clear_lem (fault number place) t = elim t [ ]
 is_clear_lem clear t = refl
 
 abbrev pub good : Tx → Bool
@@ -83,6 +84,8 @@ good x =
 
 three : (a b c : Bool) → T (a && b && c) → T a × T b × T c
 three true true c t = (tt, tt, t)
+three false b c t = elim t [ ]
+three true false c t = elim t [ ]
 
 read_fits : (r : Read) → T (fits_read r) → ReadFits r
 read_fits r t =

@@ -60,6 +60,7 @@ pub write-last :
     (st : Stamp) (s : State) (ws : List Write) (w : Write) → Level s.blocks s.places s.values → w ∈ ws → Rise ws → w.key < keys s →
     entry (write st s ws) w.key ≡ left st w
 unfolding write
+write-last st s [] w z x4 r h = elim x4 [ ]
 write-last st s (v ∷ ws) w z (Memᴰ.head e) r h =
     rw e (write-other st (store s v.key (left st v)) ws v.key (none_later v ws r) ∙ entry-same s v.key (left st v) z (rw e at h))
 write-last st s (v ∷ ws) w z (Memᴰ.tail m) r h =

@@ -47,6 +47,7 @@ module _ (rel : ℕ → ℕ → Bool) (ticket : ℕ → ℕ) (x : ℕ) where
       ((y : ℕ) → y ∈ had → ticket y ≤ ticket x) →
       (x ∈ admit rel had is → ⊥) → Cycle rel (x ∷ those lower (admit rel had is))
   unfolding admit ordered
+  rejects_lower had [] x4 o f = elim x4 [ ]
   rejects_lower had (i ∷ is) (Memᴰ.head e) o f =
       by_test
       (λ l. (x ∈ l → ⊥) → Cycle rel (x ∷ those lower l))

@@ -1,4 +1,7 @@
-// The services for other languages: a static library. Each promise is that of the service below it.
+// The services for other languages: words, and arrays for a transaction. Each promise is that of the service below it. The
+// crate `node_c` exports them.
+#![tactic(auto)]
+
 ghost use Rattle.std.specs.Prelude.{◌≡◌};
 ghost use Rattle.tonnage.specs.Services.{write_text};
 ghost use Rattle.ledger.specs.Services.{write_page};
@@ -38,8 +41,7 @@ fn answered(a: Answer) -> u64
 }
 
 // Plans a batch: verdicts, order and out are filled as document 01 says.
-#[unsafe(no_mangle)]
-pub extern "C" fn nevolisca_plan(
+pub fn nevolisca_plan(
     batch: &[u8],
     blocks: &[u32],
     places: &[u16],
@@ -58,8 +60,7 @@ pub extern "C" fn nevolisca_plan(
 }
 
 // Commits a batch: the state and the verdicts are filled.
-#[unsafe(no_mangle)]
-pub extern "C" fn nevolisca_commit(
+pub fn nevolisca_commit(
     batch: &[u8],
     blocks: &mut [u32],
     places: &mut [u16],
@@ -76,8 +77,7 @@ pub extern "C" fn nevolisca_commit(
 }
 
 // Plans a batch and commits the kept pages: the state, the verdicts and the order are filled.
-#[unsafe(no_mangle)]
-pub extern "C" fn nevolisca_plan_and_commit(
+pub fn nevolisca_plan_and_commit(
     batch: &[u8],
     blocks: &mut [u32],
     places: &mut [u16],
@@ -95,8 +95,7 @@ pub extern "C" fn nevolisca_plan_and_commit(
 }
 
 // Reads a tonnage text.
-#[unsafe(no_mangle)]
-pub extern "C" fn nevolisca_read_tonnage(text: &[u8], kilograms: &mut i64) -> u64
+pub fn nevolisca_read_tonnage(text: &[u8], kilograms: &mut i64) -> u64
     ensures { record { word = result; kilograms = kilograms.new } ≡ text_left text.now kilograms.old }
 {
     match tonnage::text::read_tonnage(text) {
@@ -109,16 +108,14 @@ pub extern "C" fn nevolisca_read_tonnage(text: &[u8], kilograms: &mut i64) -> u6
 }
 
 // Writes a tonnage text to the front of a buffer.
-#[unsafe(no_mangle)]
-pub extern "C" fn nevolisca_write_tonnage(text: &mut [u8], kilograms: i64) -> u64
+pub fn nevolisca_write_tonnage(text: &mut [u8], kilograms: i64) -> u64
     ensures { record { word = result; text = text.new } ≡ written_left (write_text text.old kilograms) }
 {
     answered(tonnage::text::write_tonnage(text, kilograms))
 }
 
 // Reads a page into a transaction's arrays.
-#[unsafe(no_mangle)]
-pub extern "C" fn nevolisca_read_page(
+pub fn nevolisca_read_page(
     page: &[u8],
     head: &mut [u32; 3],
     read_keys: &mut [u16; layout::MOST_ENTRIES],
@@ -131,7 +128,7 @@ pub extern "C" fn nevolisca_read_page(
     ensures { record {
       word = result;
       arrays = record {
-        head = head.exit.now;
+        head = head.new;
         read_keys = read_keys.new;
         read_places = read_places.new;
         read_blocks = read_blocks.new;
@@ -141,7 +138,7 @@ pub extern "C" fn nevolisca_read_page(
       };
     }
         ≡ page_left page.now (record {
-          head = head.entry.now;
+          head = head.old;
           read_keys = read_keys.old;
           read_places = read_places.old;
           read_blocks = read_blocks.old;
@@ -168,8 +165,7 @@ pub extern "C" fn nevolisca_read_page(
 }
 
 // Writes a transaction's arrays as the page at an index of a batch.
-#[unsafe(no_mangle)]
-pub extern "C" fn nevolisca_write_page(
+pub fn nevolisca_write_page(
     batch: &mut [u8],
     index: usize,
     head: &[u32; 3],
@@ -183,7 +179,7 @@ pub extern "C" fn nevolisca_write_page(
     ensures { record { word = result; batch = batch.new }
         ≡ put_left (write_page batch.old index
         (lent_tx (record {
-          head = head.entry.now;
+          head = head.now;
           read_keys = read_keys.now;
           read_places = read_places.now;
           read_blocks = read_blocks.now;

@@ -1,4 +1,5 @@
 // The listing's text, filled into a lent buffer.
+#![tactic(auto)]
 mod lines;
 pub mod program;
 mod put;

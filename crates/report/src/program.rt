@@ -11,7 +11,7 @@ use refusals::Answer;
 const START_NUMBER: u32 = 1;
 
 // What is read: so many bytes, more than the buffer holds, or a read that failed.
-#[derive(Drop)]
+#[derive(Clone, Copy)]
 pub enum Input {
     Bytes { count: usize },
     TooLong,

@@ -8,7 +8,7 @@ use refusals::Answer;
 use tonnage::digits;
 
 // The word of a verdict: its letters in front, and how many they are.
-#[derive(Drop)]
+#[derive(Clone, Copy)]
 struct Word {
     text: [u8; 6],
     length: usize,

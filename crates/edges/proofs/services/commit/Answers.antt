@@ -1,0 +1,14 @@
+use Rattle.std.proofs.Common.{sym, length-take-le, rules}
+use Rattle.edges.proofs.services.commit.Goals as goal
+
+pub slice_bounds-commit_batch-end-2 : goal.slice_bounds-commit_batch-end-2
+slice_bounds-commit_batch-end-2 c = sym (length-take-le _ _ c.length-b.ensures)
+
+pub slice_bounds-commit_batch-end-4 : goal.slice_bounds-commit_batch-end-4
+slice_bounds-commit_batch-end-4 c = sym (length-take-le _ _ c.length-p.ensures)
+
+pub slice_bounds-commit_batch-end-6 : goal.slice_bounds-commit_batch-end-6
+slice_bounds-commit_batch-end-6 c = sym (length-take-le _ _ c.length-w.ensures)
+
+pub slice_bounds-commit_batch-end-8 : goal.slice_bounds-commit_batch-end-8
+slice_bounds-commit_batch-end-8 c = sym (length-take-le _ _ c.length-v.ensures)

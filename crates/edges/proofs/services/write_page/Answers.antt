@@ -1,0 +1,5 @@
+use Rattle.std.proofs.Common.{sym, length-take-le, rules}
+use Rattle.edges.proofs.services.write_page.Goals as goal
+
+pub slice_bounds-write_page-end-2 : goal.slice_bounds-write_page-end-2
+slice_bounds-write_page-end-2 c = sym (length-take-le _ _ c.length-size.ensures)

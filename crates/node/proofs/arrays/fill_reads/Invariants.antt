@@ -1,0 +1,29 @@
+use mathlib.Core.Path.{◌≡◌, ap}
+use Prim.Native.Nat.{ℕ, ◌-◌, ◌≤◌, ◌<◌}
+use native.Mathlib.Omega.{arith}
+use borrow.Author.Rules.{rules}
+use lib.ListN.{length}
+use Rattle.ledger.specs.declared.Read.{Read}
+use Rattle.ledger.specs.Tx.{no_read, padded}
+use Rattle.ledger.specs.Page.{page_tx}
+use Rattle.ledger.proofs.OnPage.{count-reads}
+use Rattle.node.specs.Lent.{arrays_of}
+use Rattle.node.proofs.Filling.{Filling, begins, turns, ends}
+use Rattle.node.proofs.arrays.fill_reads.Given as goal
+
+-- `fill_reads`: the fields of the reads so far stand in front.
+abbrev pub key : Read → ℕ
+key x = x.key
+
+abbrev pub place : Read → ℕ
+place x = x.version.place
+
+abbrev pub block : Read → ℕ
+block x = x.version.block
+
+abbrev pub invariant-loop-i : goal.invariant-loop-i
+invariant-loop-i l = let xs = (page_tx l.page).reads in
+    (l.i ≤ length xs) × Filling key no_read xs l.i l.keys × Filling place no_read xs l.i l.places × Filling block no_read xs l.i l.blocks
+
+abbrev pub decreases-loop-i : goal.decreases-loop-i
+decreases-loop-i l = l.count - l.i

@@ -1,0 +1,17 @@
+use mathlib.Core.Path.{ap, ◌∙◌}
+use borrow.Author.Rules.{rules}
+use mir.Facts.{to_z-of_z}
+use mir.Syntax.{w64}
+use native.Mathlib.Omega.{arith}
+use lib.IntN.{ℤ}
+use Rattle.node.proofs.Worded.{text-read, text-not}
+use Rattle.node.proofs.nevolisca_read_tonnage.Goals as goal
+
+pub returns-in-Kilograms : goal.returns-in-Kilograms
+returns-in-Kilograms c =
+    ap (λ (z : ℤ). record { word = 0; kilograms = z }) (to_z-of_z {w = w64} {z = c.in-Kilograms.value} (record { sfits = omega arith }))
+    ∙ text-read _ _ _ c.read_tonnage.ensures _ c.in-Kilograms.is
+
+pub returns-in-Unread : goal.returns-in-Unread
+returns-in-Unread c =
+    text-not _ _ _ c.read_tonnage.ensures _ _ c.refused.ensures c.in-Unread.is

@@ -1,0 +1,18 @@
+use mathlib.Core.Path.{◌≡◌, refl, sym, ap, ◌∙◌}
+use mathlib.Core.Bool.{Bool, true, false, ◌||◌}
+use Prim.Native.Nat.{ℕ, ◌-◌, ◌^◌, ◌<◌}
+use borrow.Author.Rules.{rules}
+use native.Mathlib.Omega.{arith}
+use Rattle.lists.proofs.Tests.{clash, minus-some}
+use Rattle.orders.proofs.Worklist.{Reached, begins, turns, finds, ends, way_back}
+use Rattle.sets.specs.Set.{member}
+use Rattle.sets.proofs.Laws.{none, with_lt}
+use Rattle.planner.specs.Ranks.{demands}
+use Rattle.planner.proofs.admission.leads_back.Given as goal
+
+-- `planner::admission::leads_back` meets its contract. The invariant is `Reached`, of the demands turned round; the measure is what `done` lacks of 2 ^ 64. Assumes nothing.
+abbrev pub invariant-loop-kept : goal.invariant-loop-kept
+invariant-loop-kept l = (l.done < 2 ^ 64) × Reached (λ a b. demands l.blockers b a) (member l.kept) l.t (member l.reached) (member l.done)
+
+abbrev pub decreases-loop-kept : goal.decreases-loop-kept
+decreases-loop-kept l = 2 ^ 64 - l.done

@@ -1,0 +1,18 @@
+use mathlib.Core.Path.{◌≡◌, refl, sym, ap, ◌∙◌}
+use mathlib.Core.List.{◌++◌}
+use Prim.Native.Nat.{◌+◌, ◌-◌, ◌*◌, ◌≤◌}
+use native.Mathlib.Omega.{arith}
+use borrow.Author.Rules.{rules}
+use lib.ListN.{length, get_or, take, drop}
+use Rattle.ledger.proofs.Placed.{part_long}
+use Rattle.ledger.proofs.Gated.{page_long}
+use Rattle.planning.specs.Plan.{gathered}
+use Rattle.planner.proofs.Filling.{gathers, gathers_long}
+use Rattle.planner.proofs.fill.fill_out.Given as goal
+
+-- `planner::fill::fill_out` meets its contract. The invariant: the first j pages are gathered; the measure is what is left of k. Assumes nothing.
+abbrev pub invariant-loop-j : goal.invariant-loop-j
+invariant-loop-j l = (l.j ≤ l.k) × (l.out ≡ gathered l.batch (take l.j l.order) ++ drop (512 * l.j) l.initial.out)
+
+abbrev pub decreases-loop-j : goal.decreases-loop-j
+decreases-loop-j l = l.k - l.j

@@ -1,5 +1,5 @@
 // The seven services, each run on what a case lends: right where what it gives and every element that it leaves are due.
-use crate::{cases, given, lists, numbers, transactions};
+use crate::{case_lists, cases, given, numbers, transactions};
 
 // The services by their numbers, in document 01's order, and last the joined call.
 pub const READ_PAGE: u8 = 0;
@@ -36,7 +36,7 @@ fn write_page(case: &[u8], batch: &mut [u8]) -> bool {
     let index = numbers::eight(case, cases::ASKED) as usize;
     let lent = transactions::transaction(case, cases::LENT);
     let answer = ledger::page::write::write_page(&mut batch[..size], index, lent);
-    let at = lists::same_bytes(case, cases::end(case, cases::VALUES_END), batch, size);
+    let at = case_lists::same_bytes(case, cases::end(case, cases::VALUES_END), batch, size);
     cases::is_right(case, given::answered(answer), at)
 }
 
@@ -65,9 +65,9 @@ fn plan(
         &mut order[..o],
         &mut out[..u],
     );
-    let at = lists::same_bytes(case, cases::end(case, cases::VALUES_END), verdicts, v);
-    let at = lists::same_bytes(case, at, order, o);
-    let at = lists::same_bytes(case, at, out, u);
+    let at = case_lists::same_bytes(case, cases::end(case, cases::VALUES_END), verdicts, v);
+    let at = case_lists::same_bytes(case, at, order, o);
+    let at = case_lists::same_bytes(case, at, out, u);
     cases::is_right(case, given::answered(answer), at)
 }
 
@@ -90,8 +90,8 @@ fn commit(
         numbers::four(case, cases::ASKED),
         &mut verdicts[..v],
     );
-    let at = lists::same_bytes(case, cases::end(case, cases::VALUES_END), verdicts, v);
-    let at = lists::same_state(case, at, blocks, places, values, b, p, w);
+    let at = case_lists::same_bytes(case, cases::end(case, cases::VALUES_END), verdicts, v);
+    let at = case_lists::same_state(case, at, blocks, places, values, b, p, w);
     cases::is_right(case, given::answered(answer), at)
 }
 
@@ -105,7 +105,7 @@ fn write_tonnage(case: &[u8], text: &mut [u8]) -> bool {
     let size = cases::length(case, cases::BUFFER, text.len());
     let kilograms = numbers::signed(case, cases::ASKED);
     let answer = tonnage::text::write_tonnage(&mut text[..size], kilograms);
-    let at = lists::same_bytes(case, cases::end(case, cases::VALUES_END), text, size);
+    let at = case_lists::same_bytes(case, cases::end(case, cases::VALUES_END), text, size);
     cases::is_right(case, given::answered(answer), at)
 }
 
@@ -128,9 +128,9 @@ fn joined(
         order,
     );
     let at = cases::end(case, cases::VALUES_END);
-    let at = lists::same_bytes(case, at, verdicts, verdicts.len());
-    let at = lists::same_bytes(case, at, order, order.len());
-    let at = lists::same_state(
+    let at = case_lists::same_bytes(case, at, verdicts, verdicts.len());
+    let at = case_lists::same_bytes(case, at, order, order.len());
+    let at = case_lists::same_state(
         case,
         at,
         blocks,
@@ -168,9 +168,9 @@ fn plan_and_commit(
 
 // Runs a case of a service, in lists of its own.
 pub fn run(service: u8, case: &[u8]) -> bool {
-    let mut blocks = lists::blocks(case, cases::end(case, cases::BYTES_END));
-    let mut places = lists::places(case, cases::end(case, cases::BLOCKS_END));
-    let mut values = lists::values(case, cases::end(case, cases::PLACES_END));
+    let mut blocks = case_lists::blocks(case, cases::end(case, cases::BYTES_END));
+    let mut places = case_lists::places(case, cases::end(case, cases::BLOCKS_END));
+    let mut values = case_lists::values(case, cases::end(case, cases::PLACES_END));
     let mut verdicts = [LENT; MOST_BYTES];
     let mut order = [LENT; MOST_BYTES];
     let mut out = [LENT; MOST_BYTES];

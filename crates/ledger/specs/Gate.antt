@@ -1,5 +1,5 @@
 -- Document 01, refusals 11 to 16: the gate of a batch, stage by stage. Assumes nothing.
-use Rattle.std.specs.Prelude.{ℕ, ◌+◌, ◌*◌, ◌/◌, ◌%◌, Bool, not, ◌||◌, List, [], ◌∷◌, ◌++◌, length, eqb, ltb}
+use Rattle.std.specs.Prelude.{ℕ, ◌+◌, ◌*◌, ◌/◌, ◌%◌, Bool, not, ◌||◌, List, ◌∷◌, ◌++◌, length, eqb, ltb}
 use Rattle.lists.specs.Search.{some_in}
 use Rattle.lists.specs.Members.{any}
 use Rattle.refusals.specs.Fault.{Row, row, in_turn, each_row, moved}

@@ -1,5 +1,6 @@
 // The ledger: pages, the state, the gate of a batch, version check and commit.
 #![tactic(auto)]
+
 use refusals::Refusal;
 
 // A version: a block number and a place.

@@ -1,5 +1,6 @@
 // The planner: which transactions of a batch can stand together, and in which order.
 #![tactic(auto)]
+
 mod admission;
 mod demand;
 mod fill;

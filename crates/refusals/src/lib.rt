@@ -1,5 +1,6 @@
 // The refusals of document 01: their numbers, what a refusal returns, and what a service answers.
 #![tactic(auto)]
+
 ghost use Rattle.std.specs.Prelude.{◌≡◌};
 ghost use Rattle.refusals.specs.Outcome.{refuses, outcome};
 ghost use Rattle.refusals.specs.Fault.{fault, finding};

@@ -5,9 +5,8 @@ use mathlib.Core.Bool.{Bool, true, false, and-false, cond}
 use mathlib.Core.List.{List, []}
 use native.Mathlib.Omega.{arith}
 use lib.ListN.{length}
-use lib.Dec.{ltb}
 use borrow.Author.Tests.{lt-leb, le-leb, eqb-true, leb-true, not-false}
-use Rattle.lists.proofs.Tests.{leb-not, and_parts}
+use Rattle.lists.proofs.Tests.{and_parts}
 use Rattle.ledger.specs.declared.Entry.{Entry}
 use Rattle.ledger.specs.Version.{is_present}
 use Rattle.ledger.specs.State.{State, entry, wrong_lengths}
@@ -70,7 +69,7 @@ text l = listing l.number l.batch l.verdicts l.order l.kept l.state
 abbrev Listed : Lent → ℕ → List ℕ → Type 0
 Listed l r new =
     let t = listed l.out l.number l.batch l.verdicts l.order l.kept l.state in
-    (r ≡ length t) × (new ≡ filled t l.out)
+    record { result_value : r ≡ length t; out_after : new ≡ filled t l.out }
 
 -- it goes together
 pub record Sized (l : Lent) : Type 0 where
@@ -101,23 +100,23 @@ long s e =
 module _ (l : Lent) where
   none_listed : fit l ≡ false → Listed l 0 l.out
   unfolding listed
-  none_listed e = rw e (refl, refl)
+  none_listed e = rw e (record { result_value = refl; out_after = refl })
 
   -- each way not to go together
   pub short-out : length l.out < 65536 → Listed l 0 l.out
   short-out h = none_listed (rw (lt-leb 65536 (length l.out) h))
 
-  pub long_batch : ltb 32768 (length l.batch) ≡ true → Listed l 0 l.out
-  long_batch e = none_listed (simp (leb-not (length l.batch) 32768, e, and-false))
+  pub long_batch : 32768 < length l.batch → Listed l 0 l.out
+  long_batch h = none_listed (simp (lt-leb (length l.batch) 32768 h, and-false))
 
-  pub short-verdicts : ltb (length l.verdicts) (pages l.batch) ≡ true → Listed l 0 l.out
-  short-verdicts e = none_listed (simp (leb-not (pages l.batch) (length l.verdicts), e, and-false))
+  pub short-verdicts : length l.verdicts < pages l.batch → Listed l 0 l.out
+  short-verdicts h = none_listed (simp (lt-leb (pages l.batch) (length l.verdicts) h, and-false))
 
   pub short-order : length l.order < l.kept → Listed l 0 l.out
   short-order h = none_listed (simp (lt-leb l.kept (length l.order) h, and-false))
 
-  pub many_kept : ltb 64 l.kept ≡ true → Listed l 0 l.out
-  many_kept e = none_listed (simp (leb-not l.kept 64, e, and-false))
+  pub many_kept : 64 < l.kept → Listed l 0 l.out
+  many_kept h = none_listed (simp (lt-leb l.kept 64 h, and-false))
 
   pub wrong_state : wrong_lengths l.state ≡ true → Listed l 0 l.out
   wrong_state e = none_listed (simp (e, and-false))
@@ -135,4 +134,4 @@ module _ (l : Lent) where
 
   pub all_listed : (new : List ℕ) (r : ℕ) → Sized l → r ≤ 65536 → Put l.out 0 (text l) new r → Listed l r new
   unfolding listed
-  all_listed new r z h x = rw (all_fit z) (fills_to l.out (text l) new r x, fills l.out (text l) new r (omega (arith, z.room)) x)
+  all_listed new r z h x = rw (all_fit z) (record { result_value = fills_to l.out (text l) new r x; out_after = fills l.out (text l) new r (omega (arith, z.room)) x })

@@ -21,7 +21,7 @@ Told text t r new = (r ≡ length t) × (new ≡ filled t text)
 
 -- the same, and the state that is left
 abbrev pub Left : List ℕ → List ℕ → State → ℕ → List ℕ → State → Type 0
-Left text t s r new left = (r ≡ length t) × ((new ≡ filled t text) × (left ≡ s))
+Left text t s r new left = record { result_value : r ≡ length t; text_after : new ≡ filled t text; left_after : left ≡ s }
 
 same_left : (text t u : List ℕ) (s z : State) (r : ℕ) (new : List ℕ) (left : State) → t ≡ u → s ≡ z
     → Left text t s r new left → Left text u z r new left
@@ -41,7 +41,7 @@ module _ (text input : List ℕ) (s : State) where
   unfolding shown
   told_due j e r new x =
       same_left text (due j) (shown input s text) j.state (done input s).state r new j.state
-      (ap due e) (ap (λ (i : Joined). i.state) e) (x.0, (x.1, refl))
+      (ap due e) (ap (λ (i : Joined). i.state) e) (record { result_value = x.0; text_after = x.1; left_after = refl })
 
   pub told-refused : (f : Refusal) (t : State) (a b : List ℕ) → joined (Refused f) t a b ≡ done input s
       → (r : ℕ) (new : List ℕ) → Told text (refused text f.number f.place) r new
@@ -57,11 +57,21 @@ module _ (text input : List ℕ) (s : State) where
 filled_long : (text t new : List ℕ) (r : ℕ) → Told text t r new → r ≤ length new
 filled_long text t new r x = rw (x.1, length-append t (drop (length t) text)) (omega (arith, x.0))
 
+-- the same, and that the text lies within the buffer
+abbrev pub Answered : List ℕ → List ℕ → State → ℕ → List ℕ → State → Type 0
+Answered text t s r new left = record { upper_bound : r ≤ length new; result_value : r ≡ length t; text_after : new ≡ filled t text; left_after : left ≡ s }
+
 -- where it is known what was read
 pub told-read : (page text : List ℕ) (s : State) (read known : Input) (r : ℕ) (new : List ℕ) (left : State) → read ≡ known
     → Left text (told known page s text) (told_state known page s) r new left
-    → (r ≤ length new) × Left text (told read page s text) (told_state read page s) r new left
-told-read page text s read known r new left e x = rw e (filled_long text (told known page s text) new r (x.0, x.1.0), x)
+    → Answered text (told read page s text) (told_state read page s) r new left
+told-read page text s read known r new left e x =
+    rw e (record {
+      upper_bound = filled_long text (told known page s text) new r (x.result_value, x.text_after);
+      result_value = x.result_value;
+      text_after = x.text_after;
+      left_after = x.left_after;
+    })
 
 -- bytes that are known to be read lie within the buffer
 pub within : (read : Input) (n size : ℕ) → read ≡ Bytes n → Within read size → n ≤ size

@@ -1,5 +1,6 @@
 // The listing's text, filled into a lent buffer.
 #![tactic(auto)]
+
 mod lines;
 pub mod program;
 mod put;

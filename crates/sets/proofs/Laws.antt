@@ -1,18 +1,18 @@
 -- Laws of sets, by `member` alone. Assumes nothing.
 use mathlib.Core.Path.{◌≡◌, refl, sym, ap, ◌∙◌}
 use mathlib.Core.Bool.{Bool, true, false, not, ◌&&◌, ◌||◌, and-true, and-false}
-use Prim.Native.Nat.{ℕ, zero, suc, ◌+◌, ◌-◌, ◌/◌, ◌%◌, ◌^◌, ◌≤◌, ◌<◌}
+use Prim.Native.Nat.{ℕ, zero, suc, ◌+◌, ◌/◌, ◌%◌, ◌^◌, ◌≤◌, ◌<◌}
 use native.Mathlib.Nat.{eq-or-lt_of_le, le_of_suc-le-suc, not-suc-le-zero, zero-lt-suc, mod-lt, div-eq_of_lt, lt_of_lt_of_le, lt_of_not-le}
 use lib.Pow.{pow_mono}
 use native.Mathlib.Omega.{arith}
-use mathlib.Core.Logic.{◌⊎◌, ⊎_elim}
+use mathlib.Core.Logic.{⊎_elim}
 use lib.Arith.{bin_ind}
 use borrow.Author.Tests.{eq-eqb, ne_eqb}
 use lib.Dec.{eqb}
 use lib.Bits.{bit_or, or_add_and, and_le_r}
-use Rattle.lists.proofs.Tests.{clash, and_parts, minus-some, or-first, or_second}
+use Rattle.lists.proofs.Tests.{clash, minus-some, or-first, or_second}
 use Rattle.sets.specs.Set.{member, how_many, one_if}
-use Rattle.sets.proofs.Digits.{low, next, of_none, of_or, of_minus, of_only, of_trailing}
+use Rattle.sets.proofs.Digits.{low, next, of_none, of_or, of_trailing}
 
 same-digit : (x y : ℕ) → x < 2 → y < 2 → eqb x 1 ≡ eqb y 1 → x ≡ y
 same-digit zero zero p q e = refl

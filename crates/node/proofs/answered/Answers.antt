@@ -1,7 +1,6 @@
 use Rattle.node.specs.Word.{word}
 use Rattle.refusals.specs.Outcome.{outcome}
 use Rattle.refusals.specs.declared.Answer.{Answer}
-use borrow.Author.Rules.{rules}
 use mathlib.Core.Path.{sym, ap, ◌∙◌}
 use Rattle.node.proofs.answered.Goals as goal
 

@@ -1,5 +1,4 @@
 use Rattle.node.specs.Lent.{commit_left}
-use borrow.Author.Rules.{rules}
 use mathlib.Core.Path.{ap}
 use Rattle.node.proofs.nevolisca_commit.Goals as goal
 

@@ -1,5 +1,4 @@
 use Rattle.node.specs.Lent.{plan_left}
-use borrow.Author.Rules.{rules}
 use mathlib.Core.Path.{ap}
 use Rattle.node.proofs.nevolisca_plan.Goals as goal
 

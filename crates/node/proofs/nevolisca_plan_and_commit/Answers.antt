@@ -1,5 +1,4 @@
 use Rattle.node.specs.Lent.{joined_left}
-use borrow.Author.Rules.{rules}
 use mathlib.Core.Path.{ap}
 use Rattle.node.proofs.nevolisca_plan_and_commit.Goals as goal
 

@@ -1,5 +1,4 @@
 use mathlib.Core.Path.{ap, ◌∙◌}
-use borrow.Author.Rules.{rules}
 use mir.Facts.{to_z-of_z}
 use mir.Syntax.{w64}
 use native.Mathlib.Omega.{arith}

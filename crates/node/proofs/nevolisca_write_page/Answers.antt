@@ -5,7 +5,7 @@ use Rattle.refusals.specs.Fault.{clear, first, finding}
 use Rattle.ledger.specs.Page.{count_rows}
 use Rattle.ledger.proofs.Faults.{Roomy, roomy}
 use Rattle.ledger.proofs.Back.{Drafted}
-use Rattle.node.specs.Lent.{Arrays, lent_tx, put_left}
+use Rattle.node.specs.Lent.{lent_tx, put_left}
 use Rattle.node.proofs.Lending.{lent-refused, lent_drafted, lent_written}
 use Rattle.node.proofs.nevolisca_write_page.Goals as goal
 use Rattle.node.proofs.nevolisca_write_page.Goals.{After-lay_writes, In_default}
@@ -38,9 +38,9 @@ pub lay_reads-requires : goal.lay_reads-requires
 lay_reads-requires c =
     let r = room (goal.at.lay_reads-requires c).In_default in
     record {
-  count_bound = (r.few-reads, omega (arith, r.room, c.put_head.auto.p));
-  keys_len = search rules;
-}
+      count_bound = (r.few-reads, omega (arith, r.room, c.put_head.auto.p));
+      keys_len = search rules;
+    }
 
 pub writes_at-requires : goal.writes_at-requires
 writes_at-requires c = (room (goal.at.writes_at-requires c).In_default).few-reads
@@ -49,9 +49,9 @@ pub lay_writes-requires : goal.lay_writes-requires
 lay_writes-requires c =
     let r = room (goal.at.lay_writes-requires c).In_default in
     record {
-  count_bound = (r.few-writes, omega (arith, r.room, c.put_head.auto.p, c.lay_reads.auto.p, c.writes_at.ensures));
-  keys_len = search rules;
-}
+      count_bound = (r.few-writes, omega (arith, r.room, c.put_head.auto.p, c.lay_reads.auto.p, c.writes_at.ensures));
+      keys_len = search rules;
+    }
 
 pub write_laid-requires : goal.write_laid-requires
 write_laid-requires c = (draft (goal.at.write_laid-requires c).After-lay_writes).counted

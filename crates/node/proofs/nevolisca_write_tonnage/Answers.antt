@@ -1,5 +1,4 @@
 use Rattle.node.specs.Lent.{written_left}
-use borrow.Author.Rules.{rules}
 use mathlib.Core.Path.{ap, ◌∙◌}
 use mir.Facts.{to_z-of_z}
 use Rattle.tonnage.specs.Services.{write_text}

@@ -1,11 +1,15 @@
-use borrow.Author.Rules.{rules}
 use Rattle.report.proofs.Texts.{refused-not, refused-put}
 use Rattle.report.proofs.fill_refusal.Goals as goal
 
 -- `fill_refusal`: nothing in a short buffer, else the line.
 pub returns-then-out-lt-REFUSAL_ROOM : goal.returns-then-out-lt-REFUSAL_ROOM
-returns-then-out-lt-REFUSAL_ROOM c = refused-not _ _ _ c.if-out-lt-REFUSAL_ROOM.true
+returns-then-out-lt-REFUSAL_ROOM c =
+    let a = c.args in
+    let n = refused-not a.out.now a.number a.place c.if-out-lt-REFUSAL_ROOM.true in
+    record { value = n.0; out_after = n.1 }
 
 pub returns : goal.returns
 returns c =
-    refused-put _ _ _ _ _ c.if-out-lt-REFUSAL_ROOM.false c.put_refusal.ensures
+    let a = c.args in
+    let n = refused-put a.out.now a.number a.place _ _ c.if-out-lt-REFUSAL_ROOM.false c.put_refusal.ensures in
+    record { value = n.0; out_after = n.1 }

@@ -1,4 +1,3 @@
-use borrow.Author.Rules.{rules}
 use Rattle.sets.proofs.Digits.{of_drop}
 use Rattle.sets.proofs.drop_lowest.Goals as goal
 

@@ -1,8 +1,6 @@
-use Prim.Native.Nat.{◌-◌}
 use Rattle.ledger.specs.Gate.{tx_at, beyond}
 use Rattle.ledger.specs.Page.{page_tx}
-use Rattle.lists.proofs.Loops.{Unfound, begins, found, passes, ends}
-use borrow.Author.Rules.{rules}
+use Rattle.lists.proofs.Loops.{begins, found, passes, ends}
 use mathlib.Core.Path.{◌≡◌, sym, ap, ◌∙◌}
 use native.Mathlib.Omega.{arith}
 use Rattle.ledger.proofs.batch.first_beyond.Goals as goal

@@ -1,10 +1,9 @@
 use Rattle.ledger.proofs.Gated.{front_whole, gate_front, gate_own, gate_pages}
 use Rattle.ledger.specs.Gate.{lent_row, front_rows}
-use Rattle.ledger.specs.State.{State, state_of}
+use Rattle.ledger.specs.State.{state_of}
 use Rattle.refusals.proofs.Rows.{no_fault, row_there, one-clear}
-use Rattle.refusals.specs.Fault.{Row, clear, first, finding}
-use borrow.Author.Rules.{rules}
-use mathlib.Core.List.{List, [], ◌∷◌}
+use Rattle.refusals.specs.Fault.{clear, first, finding}
+use mathlib.Core.List.{[], ◌∷◌}
 use mathlib.Core.Path.{◌≡◌, sym, ap, ◌∙◌}
 use native.Mathlib.Omega.{arith}
 use Rattle.ledger.proofs.batch.gate_fault.Goals as goal
@@ -18,9 +17,9 @@ pub returns-in-Found : goal.returns-in-Found
 returns-in-Found c =
     let e = ap finding c.in-Found.is in
     record {
-  result_value = e ∙ sym (gate_front (lent_row c.args.short ∷ []) c.args.batch.now (state_of c.args.blocks.now c.args.places.now c.args.values.now) c.args.n (sym c.front_fault-found.ensures ∙ e));
-  tickets_of = λ none. absurd (no_fault none e);
-}
+      result_value = e ∙ sym (gate_front (lent_row c.args.short ∷ []) c.args.batch.now (state_of c.args.blocks.now c.args.places.now c.args.values.now) c.args.n (sym c.front_fault-found.ensures ∙ e));
+      tickets_of = λ none. absurd (no_fault none e);
+    }
 
 pub returns-then-short : goal.returns-then-short
 returns-then-short c = record {

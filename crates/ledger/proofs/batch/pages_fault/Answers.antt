@@ -3,7 +3,6 @@ use Rattle.ledger.proofs.Tickets.{again_is}
 use Rattle.ledger.specs.Gate.{again}
 use Rattle.refusals.proofs.Rows.{test_found, test_missed}
 use Rattle.refusals.specs.Fault.{clear, first, finding}
-use borrow.Author.Rules.{rules}
 use mathlib.Core.Path.{◌≡◌, sym, ap, ◌∙◌}
 use native.Mathlib.Omega.{arith}
 use Rattle.ledger.proofs.batch.pages_fault.Goals as goal

@@ -1,8 +1,6 @@
 use mathlib.Core.Path.{◌≡◌, ap}
 use mathlib.Core.Bool.{false}
-use mathlib.Core.Logic.{⊎_elim}
 use native.Mathlib.Omega.{arith}
-use borrow.Author.Rules.{rules}
 use Rattle.ledger.specs.declared.Read.{Read}
 use Rattle.ledger.specs.declared.Write.{Write}
 use Rattle.ledger.specs.Page.{page_tx}
@@ -20,8 +18,8 @@ counted c = good-counted _ c.requires
 reads-low : (c : Joined-r-gt0) → reads_beyond c.args.keys (page_tx c.args.page.now) ≡ false
 reads-low c =
     elim c.if-r-gt0.branch [
-      then-r-gt0+else-last-keys w ↦ last_within _ _ _ (read-keys _ c.requires) _ _ c.reads-r.ensures (ap (λ (x : Read). x.key) w.read-last.ensures) w.if-last-keys.false
-    | else-r-gt0 w ↦ none_within (read_key (page_tx c.args.page.now)) _ c.args.keys _ c.reads-r.ensures w.if-r-gt0.false
+      | then-r-gt0+else-last-keys w ↦ last_within _ _ _ (read-keys _ c.requires) _ _ c.reads-r.ensures (ap (λ (x : Read). x.key) w.read-last.ensures) w.if-last-keys.false
+      | else-r-gt0 w ↦ none_within (read_key (page_tx c.args.page.now)) _ c.args.keys _ c.reads-r.ensures w.if-r-gt0.false
     ]
 
 pub reads-r-requires : goal.reads-r-requires

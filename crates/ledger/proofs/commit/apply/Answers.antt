@@ -1,5 +1,5 @@
 use mathlib.Core.Path.{◌≡◌, ap, ◌∙◌}
-use Prim.Native.Nat.{◌+◌, ◌*◌, ◌-◌, ◌≤◌, ◌<◌}
+use Prim.Native.Nat.{◌+◌, ◌*◌, ◌≤◌, ◌<◌}
 use lib.ListN.{length}
 use Rattle.ledger.specs.declared.Write.{Write}
 use Rattle.ledger.specs.Page.{read_count, page_tx}
@@ -9,8 +9,7 @@ use Rattle.ledger.specs.Inner.{Counted}
 use Rattle.ledger.proofs.Pages.{good-counted}
 use Rattle.ledger.proofs.Rising.{below, write_kinds_lem}
 use Rattle.ledger.proofs.OnPage.{count-reads, count-writes, write_from}
-use Rattle.ledger.proofs.Commits.{Writing, writing_begins, writing_kept, writing_level, writing_turns, writing_ends}
-use borrow.Author.Rules.{rules}
+use Rattle.ledger.proofs.Commits.{writing_begins, writing_kept, writing_level, writing_turns, writing_ends}
 use native.Mathlib.Omega.{arith}
 use Rattle.ledger.proofs.commit.apply.Goals as goal
 use Rattle.ledger.proofs.commit.apply.Goals.{After-write_at-x, In-loop-j, Start}

@@ -1,17 +1,7 @@
-use mathlib.Core.Path.{◌≡◌, ap, ◌∙◌}
-use Prim.Native.Nat.{◌+◌, ◌*◌, ◌-◌, ◌≤◌, ◌<◌}
-use lib.ListN.{length}
-use Rattle.ledger.specs.declared.Write.{Write}
-use Rattle.ledger.specs.Page.{read_count, page_tx}
-use Rattle.ledger.specs.Tx.{write_of}
-use Rattle.ledger.specs.State.{state_of, store}
-use Rattle.ledger.specs.Inner.{Counted}
-use Rattle.ledger.proofs.Pages.{good-counted}
-use Rattle.ledger.proofs.Rising.{below, write_kinds_lem}
-use Rattle.ledger.proofs.OnPage.{count-reads, count-writes, write_from}
-use Rattle.ledger.proofs.Commits.{Writing, writing_begins, writing_kept, writing_level, writing_turns, writing_ends}
-use borrow.Author.Rules.{rules}
-use native.Mathlib.Omega.{arith}
+use Prim.Native.Nat.{◌-◌}
+use Rattle.ledger.specs.Page.{page_tx}
+use Rattle.ledger.specs.State.{state_of}
+use Rattle.ledger.proofs.Commits.{Writing}
 use Rattle.ledger.proofs.commit.apply.Given as goal
 
 -- `apply`: the writes in turn.

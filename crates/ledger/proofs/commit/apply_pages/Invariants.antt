@@ -1,17 +1,12 @@
-use mathlib.Core.Path.{◌≡◌, refl, sym, ap, ◌∙◌}
+use mathlib.Core.Path.{◌≡◌}
 use mathlib.Core.List.{List}
-use Prim.Native.Nat.{ℕ, ◌+◌, ◌-◌, ◌≤◌}
-use native.Mathlib.Omega.{arith}
-use borrow.Author.Rules.{rules}
+use Prim.Native.Nat.{ℕ, ◌-◌, ◌≤◌}
 use lib.ListN.{get_or}
 use Rattle.lists.specs.Tables.{tab}
 use Rattle.ledger.specs.Gate.{tx_at}
-use Rattle.ledger.specs.Page.{page_tx}
-use Rattle.ledger.specs.State.{State, state_of}
+use Rattle.ledger.specs.State.{state_of}
 use Rattle.ledger.specs.Tx.{Tx}
-use Rattle.ledger.specs.Commit.{stamp, write}
-use Rattle.ledger.specs.Inner.{txs_in, applied}
-use Rattle.ledger.proofs.Commits.{Kept, kept_level, applied-kept, applied-next}
+use Rattle.ledger.specs.Inner.{applied}
 use Rattle.ledger.proofs.commit.apply_pages.Given as goal
 
 -- `apply_pages`: the pages in the order's turn.

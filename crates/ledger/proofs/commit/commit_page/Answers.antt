@@ -1,7 +1,6 @@
 use mathlib.Core.Path.{sym, ◌∙◌}
 use Rattle.ledger.specs.State.{state_of}
 use Rattle.ledger.proofs.Commits.{page-fails, page-passes}
-use borrow.Author.Rules.{rules}
 use Rattle.ledger.proofs.commit.commit_page.Goals as goal
 
 pub returns-then-not-passes : goal.returns-then-not-passes
@@ -10,9 +9,9 @@ returns-then-not-passes c =
     let e = c.if-not-passes.true in
     let f = c.passes.ensures in
     record {
-  value = sym e ∙ f;
-  left_after = page-fails a.n a.i _ _ (sym f ∙ e);
-}
+      value = sym e ∙ f;
+      left_after = page-fails a.n a.i _ _ (sym f ∙ e);
+    }
 
 pub returns : goal.returns
 returns c =
@@ -20,6 +19,6 @@ returns c =
     let q = c.if-not-passes.false in
     let f = c.passes.ensures in
     record {
-  value = sym q ∙ f;
-  left_after = page-passes a.n a.i _ _ (state_of c.apply.new.blocks c.apply.new.places c.apply.new.values) (sym f ∙ q) c.apply.ensures;
-}
+      value = sym q ∙ f;
+      left_after = page-passes a.n a.i _ _ (state_of c.apply.new.blocks c.apply.new.places c.apply.new.values) (sym f ∙ q) c.apply.ensures;
+    }

@@ -1,15 +1,13 @@
 use mathlib.Core.Path.{◌≡◌, sym, ap, ◌∙◌}
 use mathlib.Core.Bool.{Bool, true, false, cond}
-use mathlib.Core.Logic.{⊎_elim}
 use mathlib.Core.List.{List}
-use Prim.Native.Nat.{ℕ, ◌+◌, ◌-◌, ◌≤◌, ◌<◌}
+use Prim.Native.Nat.{ℕ, ◌+◌, ◌<◌}
 use native.Mathlib.Nat.{add-zero}
 use native.Mathlib.Omega.{arith}
-use borrow.Author.Rules.{rules}
 use lib.ListN.{length, set}
 use Rattle.ledger.specs.Gate.{tx_at}
 use Rattle.ledger.specs.Page.{page_tx}
-use Rattle.ledger.specs.State.{State, state_of}
+use Rattle.ledger.specs.State.{state_of}
 use Rattle.ledger.proofs.Commits.{Kept, kept_level, Committing, committing_begins, committing_kept, committing_long, committing_turns, committing_ends}
 use Rattle.ledger.proofs.commit.commit_pages.Goals as goal
 use Rattle.ledger.proofs.commit.commit_pages.Goals.{After-loop-i, After-values-1, In-loop-i, then-commit_page, else-commit_page}
@@ -69,8 +67,8 @@ loop-i-preserved c =
     let h = c.loop-i in
     let q = (goal.at.loop-i-preserved c).After-values-1 in
     elim c.if-commit_page.branch [
-      then-commit_page w ↦ (omega (arith, c.loop-i-test.true), omega (arith, w.count-is, h.invariant.1), next q true _ _ w.if-commit_page.true w.count-is w.verdicts-is)
-    | else-commit_page w ↦ (omega (arith, c.loop-i-test.true), omega (arith, w.count-is, h.invariant.1), next q false _ _ w.if-commit_page.false (w.count-is ∙ sym (add-zero h.count)) w.verdicts-is)
+      | then-commit_page w ↦ (omega (arith, c.loop-i-test.true), omega (arith, w.count-is, h.invariant.1), next q true _ _ w.if-commit_page.true w.count-is w.verdicts-is)
+      | else-commit_page w ↦ (omega (arith, c.loop-i-test.true), omega (arith, w.count-is, h.invariant.1), next q false _ _ w.if-commit_page.false (w.count-is ∙ sym (add-zero h.count)) w.verdicts-is)
     ]
 
 pub shape_of-blocks : goal.shape_of-blocks

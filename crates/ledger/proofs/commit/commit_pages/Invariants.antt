@@ -1,16 +1,7 @@
-use mathlib.Core.Path.{◌≡◌, sym, ap, ◌∙◌}
-use mathlib.Core.Bool.{Bool, true, false, cond}
-use mathlib.Core.Logic.{⊎_elim}
-use mathlib.Core.List.{List}
-use Prim.Native.Nat.{ℕ, ◌+◌, ◌-◌, ◌≤◌, ◌<◌}
-use native.Mathlib.Nat.{add-zero}
-use native.Mathlib.Omega.{arith}
-use borrow.Author.Rules.{rules}
-use lib.ListN.{length, set}
+use Prim.Native.Nat.{◌-◌, ◌≤◌}
 use Rattle.ledger.specs.Gate.{tx_at}
-use Rattle.ledger.specs.Page.{page_tx}
-use Rattle.ledger.specs.State.{State, state_of}
-use Rattle.ledger.proofs.Commits.{Kept, kept_level, Committing, committing_begins, committing_kept, committing_long, committing_turns, committing_ends}
+use Rattle.ledger.specs.State.{state_of}
+use Rattle.ledger.proofs.Commits.{Committing}
 use Rattle.ledger.proofs.commit.commit_pages.Given as goal
 
 -- `commit_pages`: the pages in turn.

@@ -1,14 +1,12 @@
 use mathlib.Core.Path.{◌≡◌, ap}
-use Prim.Native.Nat.{ℕ, ◌-◌, ◌≤◌, ◌<◌}
+use Prim.Native.Nat.{◌<◌}
 use native.Mathlib.Omega.{arith}
-use borrow.Author.Rules.{rules}
 use lib.ListN.{length}
-use Rattle.ledger.specs.declared.Read.{Read}
 use Rattle.ledger.specs.Tx.{no_read, padded}
 use Rattle.ledger.specs.Page.{page_tx}
 use Rattle.ledger.proofs.OnPage.{count-reads}
 use Rattle.node.specs.Lent.{arrays_of}
-use Rattle.node.proofs.Filling.{Filling, begins, turns, ends}
+use Rattle.node.proofs.Filling.{begins, turns, ends}
 use Rattle.node.proofs.arrays.fill_reads.Goals as goal
 use Rattle.node.proofs.arrays.fill_reads.Goals.{After-loop-i, In-loop-i}
 use Rattle.node.proofs.arrays.fill_reads.Invariants.{key, place, block}
@@ -73,7 +71,7 @@ pub returns : goal.returns
 unfolding arrays_of padded
 returns c =
     let v = c.loop-i.invariant in record {
-  keys_after = ends key no_read _ _ _ v.1 (done (goal.at.returns c).After-loop-i);
-  places_after = ends place no_read _ _ _ v.2 (done (goal.at.returns c).After-loop-i);
-  blocks_after = ends block no_read _ _ _ v.3 (done (goal.at.returns c).After-loop-i);
-}
+      keys_after = ends key no_read _ _ _ v.1 (done (goal.at.returns c).After-loop-i);
+      places_after = ends place no_read _ _ _ v.2 (done (goal.at.returns c).After-loop-i);
+      blocks_after = ends block no_read _ _ _ v.3 (done (goal.at.returns c).After-loop-i);
+    }

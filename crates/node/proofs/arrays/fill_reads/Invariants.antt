@@ -1,14 +1,9 @@
-use mathlib.Core.Path.{◌≡◌, ap}
-use Prim.Native.Nat.{ℕ, ◌-◌, ◌≤◌, ◌<◌}
-use native.Mathlib.Omega.{arith}
-use borrow.Author.Rules.{rules}
+use Prim.Native.Nat.{ℕ, ◌-◌, ◌≤◌}
 use lib.ListN.{length}
 use Rattle.ledger.specs.declared.Read.{Read}
-use Rattle.ledger.specs.Tx.{no_read, padded}
+use Rattle.ledger.specs.Tx.{no_read}
 use Rattle.ledger.specs.Page.{page_tx}
-use Rattle.ledger.proofs.OnPage.{count-reads}
-use Rattle.node.specs.Lent.{arrays_of}
-use Rattle.node.proofs.Filling.{Filling, begins, turns, ends}
+use Rattle.node.proofs.Filling.{Filling}
 use Rattle.node.proofs.arrays.fill_reads.Given as goal
 
 -- `fill_reads`: the fields of the reads so far stand in front.

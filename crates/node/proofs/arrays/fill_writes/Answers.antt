@@ -1,17 +1,14 @@
 use mathlib.Core.Path.{◌≡◌, ap, ◌∙◌}
-use Prim.Native.Nat.{ℕ, ◌+◌, ◌*◌, ◌-◌, ◌≤◌, ◌<◌}
+use Prim.Native.Nat.{◌+◌, ◌*◌, ◌≤◌, ◌<◌}
 use native.Mathlib.Omega.{arith}
-use borrow.Author.Rules.{rules}
 use lib.ListN.{length}
-use lib.IntN.{ℤ}
 use mir.Facts.{to_z-of_z}
 use mir.Syntax.{w64}
-use Rattle.ledger.specs.declared.Write.{Write}
 use Rattle.ledger.specs.Tx.{no_write, write_of, padded}
 use Rattle.ledger.specs.Page.{read_count, page_tx}
 use Rattle.ledger.proofs.OnPage.{count-reads, count-writes, write_from}
 use Rattle.node.specs.Lent.{arrays_of}
-use Rattle.node.proofs.Filling.{Filling, begins, turns, ends}
+use Rattle.node.proofs.Filling.{begins, turns, ends}
 use Rattle.node.proofs.arrays.fill_writes.Goals as goal
 use Rattle.node.proofs.arrays.fill_writes.Goals.{After-loop-i, After-write_at-x, In-loop-i}
 use Rattle.node.proofs.arrays.fill_writes.Invariants.{key, kind, value}
@@ -98,7 +95,7 @@ pub returns : goal.returns
 unfolding arrays_of padded
 returns c =
     let v = c.loop-i.invariant in record {
-  keys_after = ends key no_write _ _ _ v.1 (done (goal.at.returns c).After-loop-i);
-  kinds_after = ends kind no_write _ _ _ v.2 (done (goal.at.returns c).After-loop-i);
-  values_after = ends value no_write _ _ _ v.3 (done (goal.at.returns c).After-loop-i);
-}
+      keys_after = ends key no_write _ _ _ v.1 (done (goal.at.returns c).After-loop-i);
+      kinds_after = ends kind no_write _ _ _ v.2 (done (goal.at.returns c).After-loop-i);
+      values_after = ends value no_write _ _ _ v.3 (done (goal.at.returns c).After-loop-i);
+    }

@@ -1,16 +1,10 @@
-use mathlib.Core.Path.{◌≡◌, ap, ◌∙◌}
-use Prim.Native.Nat.{ℕ, ◌+◌, ◌*◌, ◌-◌, ◌≤◌, ◌<◌}
-use native.Mathlib.Omega.{arith}
-use borrow.Author.Rules.{rules}
+use Prim.Native.Nat.{ℕ, ◌-◌, ◌≤◌}
 use lib.ListN.{length}
 use lib.IntN.{ℤ}
-use mir.Facts.{to_z-of_z}
 use Rattle.ledger.specs.declared.Write.{Write}
-use Rattle.ledger.specs.Tx.{no_write, write_of, padded}
-use Rattle.ledger.specs.Page.{read_count, page_tx}
-use Rattle.ledger.proofs.OnPage.{count-reads, count-writes, write_from}
-use Rattle.node.specs.Lent.{arrays_of}
-use Rattle.node.proofs.Filling.{Filling, begins, turns, ends}
+use Rattle.ledger.specs.Tx.{no_write}
+use Rattle.ledger.specs.Page.{page_tx}
+use Rattle.node.proofs.Filling.{Filling}
 use Rattle.node.proofs.arrays.fill_writes.Given as goal
 
 -- `fill_writes`: the fields of the writes so far stand in front.

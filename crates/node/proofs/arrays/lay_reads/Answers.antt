@@ -1,13 +1,9 @@
-use mathlib.Core.Path.{◌≡◌, refl, ◌∙◌}
-use Prim.Native.Nat.{◌-◌, ◌≤◌}
+use mathlib.Core.Path.{refl, ◌∙◌}
 use native.Mathlib.Nat.{le_antisymm}
 use native.Mathlib.Omega.{arith}
 use borrow.Author.Rules.{rules}
-use lib.ListN.{length}
-use lib.Seq.{sets}
 use Rattle.lists.specs.Tables.{flat}
 use Rattle.lists.proofs.Tables.{flat-more}
-use Rattle.ledger.specs.Page.{read_bytes}
 use Rattle.ledger.proofs.Stored.{length-read}
 use Rattle.node.specs.Lent.{read_in}
 use Rattle.node.proofs.arrays.lay_reads.Goals as goal
@@ -32,8 +28,8 @@ pub returns : goal.returns
 returns c = record {
   p_after = c.loop-i.invariant.2 ∙ rw (le_antisymm c.loop-i.invariant.0 c.loop-i-test.false);
   by_index = λ i l. record {
-        key = omega (arith, c.type_inv.keys i);
-        place = omega (arith, c.type_inv.places i);
-        block = omega (arith, c.type_inv.blocks i);
-      };
+    key = omega (arith, c.type_inv.keys i);
+    place = omega (arith, c.type_inv.places i);
+    block = omega (arith, c.type_inv.blocks i);
+  };
 }

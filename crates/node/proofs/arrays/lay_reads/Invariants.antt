@@ -1,14 +1,9 @@
-use mathlib.Core.Path.{◌≡◌, refl, ◌∙◌}
+use mathlib.Core.Path.{◌≡◌}
 use Prim.Native.Nat.{◌-◌, ◌≤◌}
-use native.Mathlib.Nat.{le_antisymm}
-use native.Mathlib.Omega.{arith}
-use borrow.Author.Rules.{rules}
 use lib.ListN.{length}
 use lib.Seq.{sets}
 use Rattle.lists.specs.Tables.{flat}
-use Rattle.lists.proofs.Tables.{flat-more}
 use Rattle.ledger.specs.Page.{read_bytes}
-use Rattle.ledger.proofs.Stored.{length-read}
 use Rattle.node.specs.Lent.{read_in}
 use Rattle.node.proofs.arrays.lay_reads.Given as goal
 

@@ -1,17 +1,14 @@
-use mathlib.Core.Path.{◌≡◌, refl, ◌∙◌}
-use Prim.Native.Nat.{ℕ, ◌-◌, ◌≤◌, ◌<◌}
+use mathlib.Core.Path.{refl, ◌∙◌}
 use native.Mathlib.Nat.{le_antisymm}
 use native.Mathlib.Omega.{arith}
 use borrow.Author.Rules.{rules}
-use lib.ListN.{length, get_or}
-use lib.Seq.{sets}
+use lib.ListN.{get_or}
 use lib.IntN.{pos}
 use mir.Syntax.{w64}
 use mir.Val.{SFits}
 use mir.Facts.{to_z-of_z}
 use Rattle.lists.specs.Tables.{flat}
 use Rattle.lists.proofs.Tables.{flat-more}
-use Rattle.ledger.specs.Page.{write_bytes}
 use Rattle.ledger.proofs.Stored.{length-write}
 use Rattle.node.specs.Lent.{write_in}
 use Rattle.node.proofs.Lending.{up_to}
@@ -41,8 +38,8 @@ pub returns : goal.returns
 returns c = record {
   p_after = c.loop-i.invariant.2 ∙ rw (le_antisymm c.loop-i.invariant.0 c.loop-i-test.false);
   by_index = λ i l. record {
-        key = omega (arith, c.type_inv.keys i);
-        kind = omega (arith, c.type_inv.kinds i);
-        value = c.loop-i.invariant.3 i (omega (arith, l, c.loop-i-test.false));
-      };
+    key = omega (arith, c.type_inv.keys i);
+    kind = omega (arith, c.type_inv.kinds i);
+    value = c.loop-i.invariant.3 i (omega (arith, l, c.loop-i-test.false));
+  };
 }

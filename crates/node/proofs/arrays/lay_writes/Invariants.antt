@@ -1,20 +1,13 @@
-use mathlib.Core.Path.{◌≡◌, refl, ◌∙◌}
+use mathlib.Core.Path.{◌≡◌}
 use Prim.Native.Nat.{ℕ, ◌-◌, ◌≤◌, ◌<◌}
-use native.Mathlib.Nat.{le_antisymm}
-use native.Mathlib.Omega.{arith}
-use borrow.Author.Rules.{rules}
 use lib.ListN.{length, get_or}
 use lib.Seq.{sets}
 use lib.IntN.{pos}
 use mir.Syntax.{w64}
 use mir.Val.{SFits}
-use mir.Facts.{to_z-of_z}
 use Rattle.lists.specs.Tables.{flat}
-use Rattle.lists.proofs.Tables.{flat-more}
 use Rattle.ledger.specs.Page.{write_bytes}
-use Rattle.ledger.proofs.Stored.{length-write}
 use Rattle.node.specs.Lent.{write_in}
-use Rattle.node.proofs.Lending.{up_to}
 use Rattle.node.proofs.arrays.lay_writes.Given as goal
 
 -- `lay_writes`: the writes so far are laid out, and their values are of 64 bits.

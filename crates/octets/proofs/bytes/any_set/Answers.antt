@@ -1,6 +1,5 @@
-use Prim.Native.Nat.{◌-◌}
 use borrow.Author.Rules.{rules}
-use Rattle.octets.proofs.Joined.{Joined, joined_begins, joined_turns, joined-ends}
+use Rattle.octets.proofs.Joined.{joined_begins, joined_turns, joined-ends}
 use Rattle.octets.proofs.bytes.any_set.Goals as goal
 
 pub loop-i-init : goal.loop-i-init

@@ -1,6 +1,5 @@
 use Prim.Native.Nat.{◌-◌}
-use borrow.Author.Rules.{rules}
-use Rattle.octets.proofs.Joined.{Joined, joined_begins, joined_turns, joined-ends}
+use Rattle.octets.proofs.Joined.{Joined}
 use Rattle.octets.proofs.bytes.any_set.Given as goal
 
 -- `any_set`: the bytes so far, joined.

@@ -1,9 +1,6 @@
 use mathlib.Core.Path.{◌≡◌, refl, ap, ◌∙◌}
-use mathlib.Core.List.{◌++◌}
-use Prim.Native.Nat.{◌-◌, ◌≤◌}
 use native.Mathlib.Omega.{arith}
-use borrow.Author.Rules.{rules}
-use lib.ListN.{length, get_or, take, drop, set}
+use lib.ListN.{length, get_or, set}
 use Rattle.lists.proofs.Stores.{copies, copies_long, copied}
 use Rattle.octets.proofs.bytes.copy.Goals as goal
 use Rattle.octets.proofs.bytes.copy.Goals.{At-loop-i}
@@ -21,12 +18,11 @@ pub bounds-to-i : goal.bounds-to-i
 bounds-to-i c = omega (arith, long (goal.at.bounds-to-i c).At-loop-i, c.loop-i-test.true, c.requires)
 
 pub loop-i-preserved : goal.loop-i-preserved
-loop-i-preserved c =
-    (
-      omega (arith, c.loop-i-test.true),
-      ap (λ l. set l c.loop-i.i (get_or c.args.from.now c.loop-i.i 0)) c.loop-i.invariant.1
-          ∙ copies c.loop-i.i _ _ c.loop-i-test.true (omega (arith, c.loop-i-test.true, c.requires)),
-    )
+loop-i-preserved c = (
+  omega (arith, c.loop-i-test.true),
+  ap (λ l. set l c.loop-i.i (get_or c.args.from.now c.loop-i.i 0)) c.loop-i.invariant.1
+      ∙ copies c.loop-i.i _ _ c.loop-i-test.true (omega (arith, c.loop-i-test.true, c.requires)),
+)
 
 pub shape_of-to : goal.shape_of-to
 shape_of-to c = long (goal.at.shape_of-to c).At-loop-i

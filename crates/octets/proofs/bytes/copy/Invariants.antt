@@ -1,10 +1,7 @@
-use mathlib.Core.Path.{◌≡◌, refl, ap, ◌∙◌}
+use mathlib.Core.Path.{◌≡◌}
 use mathlib.Core.List.{◌++◌}
 use Prim.Native.Nat.{◌-◌, ◌≤◌}
-use native.Mathlib.Omega.{arith}
-use borrow.Author.Rules.{rules}
-use lib.ListN.{length, get_or, take, drop, set}
-use Rattle.lists.proofs.Stores.{copies, copies_long, copied}
+use lib.ListN.{length, take, drop}
 use Rattle.octets.proofs.bytes.copy.Given as goal
 
 -- `copy`: the first i bytes are copied.

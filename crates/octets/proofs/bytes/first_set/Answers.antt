@@ -1,10 +1,8 @@
 use mathlib.Core.Path.{ap}
 use mathlib.Core.Bool.{not}
-use Prim.Native.Nat.{◌-◌}
 use borrow.Author.Rules.{rules}
 use borrow.Author.Tests.{eq-eqb, ne_eqb}
-use Rattle.lists.proofs.Loops.{Unfound, begins, found, passes, ends}
-use Rattle.octets.specs.Bytes.{set?}
+use Rattle.lists.proofs.Loops.{begins, found, passes, ends}
 use Rattle.octets.proofs.bytes.first_set.Goals as goal
 
 pub loop-i-init : goal.loop-i-init

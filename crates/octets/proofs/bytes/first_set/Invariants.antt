@@ -1,9 +1,5 @@
-use mathlib.Core.Path.{ap}
-use mathlib.Core.Bool.{not}
 use Prim.Native.Nat.{◌-◌}
-use borrow.Author.Rules.{rules}
-use borrow.Author.Tests.{eq-eqb, ne_eqb}
-use Rattle.lists.proofs.Loops.{Unfound, begins, found, passes, ends}
+use Rattle.lists.proofs.Loops.{Unfound}
 use Rattle.octets.specs.Bytes.{set?}
 use Rattle.octets.proofs.bytes.first_set.Given as goal
 

@@ -1,5 +1,4 @@
 use native.Mathlib.Omega.{arith}
-use borrow.Author.Rules.{rules}
 use native.Mathlib.Numerals.{add-one}
 use Prim.Native.Nat.{◌+◌}
 use Rattle.octets.specs.Bytes.{field}

@@ -1,5 +1,4 @@
 use native.Mathlib.Omega.{arith}
-use borrow.Author.Rules.{rules}
 use Rattle.octets.proofs.Numbers.{field-add}
 use Rattle.octets.proofs.bytes.le8.Goals as goal
 

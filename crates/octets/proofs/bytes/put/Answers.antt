@@ -1,9 +1,7 @@
 use borrow.Author.Rules.{rules}
-use Prim.Native.Nat.{◌≤◌, ◌-◌, ◌+◌}
-use mathlib.Core.Path.{◌≡◌, refl, sym, ◌∙◌}
+use mathlib.Core.Path.{refl, sym, ◌∙◌}
 use native.Mathlib.Nat.{le_antisymm, add-zero, sub-zero, sub_self}
-use lib.ListN.{length, length-set}
-use lib.Seq.{sets}
+use lib.ListN.{length-set}
 use Rattle.octets.specs.Bytes.{le}
 use Rattle.octets.proofs.Stored.{le_step}
 use Rattle.octets.proofs.bytes.put.Goals as goal

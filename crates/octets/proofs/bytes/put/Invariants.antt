@@ -1,11 +1,8 @@
-use borrow.Author.Rules.{rules}
 use Prim.Native.Nat.{◌≤◌, ◌-◌, ◌+◌}
-use mathlib.Core.Path.{◌≡◌, refl, sym, ◌∙◌}
-use native.Mathlib.Nat.{le_antisymm, add-zero, sub-zero, sub_self}
-use lib.ListN.{length, length-set}
+use mathlib.Core.Path.{◌≡◌}
+use lib.ListN.{length}
 use lib.Seq.{sets}
 use Rattle.octets.specs.Bytes.{le}
-use Rattle.octets.proofs.Stored.{le_step}
 use Rattle.octets.proofs.bytes.put.Given as goal
 
 -- `put`: what is left to store is the bytes of what is left of the number.

@@ -1,4 +1,3 @@
-use borrow.Author.Rules.{rules}
 use mir.Facts.{to_z-of_z}
 use Rattle.octets.proofs.Signed.{upper, upper_fits, upper_is}
 use Rattle.octets.proofs.bytes.signed.Goals as goal

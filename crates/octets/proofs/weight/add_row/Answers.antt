@@ -1,7 +1,5 @@
-use Prim.Native.Nat.{◌-◌}
-use borrow.Author.Rules.{rules}
 use native.Mathlib.Omega.{arith}
-use Rattle.octets.proofs.Columns.{Adding, adding_begins, adding_turns, adding_ends, runs_fits, sums_fits}
+use Rattle.octets.proofs.Columns.{adding_begins, adding_turns, adding_ends, runs_fits, sums_fits}
 use Rattle.octets.proofs.weight.add_row.Goals as goal
 
 pub loop-c-init : goal.loop-c-init

@@ -1,11 +1,6 @@
-use mathlib.Core.Path.{◌≡◌, ap, ◌∙◌}
-use Prim.Native.Nat.{◌+◌, ◌*◌, ◌-◌, ◌≤◌, ◌<◌}
-use borrow.Author.Rules.{rules}
-use native.Mathlib.Nat.{le_antisymm}
-use native.Mathlib.Omega.{arith}
-use lib.ListN.{get_or}
+use mathlib.Core.Path.{◌≡◌}
+use Prim.Native.Nat.{◌*◌, ◌-◌, ◌≤◌}
 use Rattle.octets.specs.Columns.{by_columns}
-use Rattle.octets.proofs.Columns.{gathered_next, column_le}
 use Rattle.octets.proofs.weight.gather.Given as goal
 
 -- `gather`: the columns so far, and a bound on their sum that keeps it within 32 bits.

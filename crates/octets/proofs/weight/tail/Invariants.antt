@@ -1,11 +1,6 @@
-use mathlib.Core.Path.{◌≡◌, ap, ◌∙◌}
+use mathlib.Core.Path.{◌≡◌}
 use Prim.Native.Nat.{◌≤◌, ◌+◌, ◌*◌, ◌-◌}
-use borrow.Author.Rules.{rules}
-use native.Mathlib.Nat.{le_antisymm}
-use native.Mathlib.Omega.{arith}
-use lib.ListN.{get_or}
 use Rattle.octets.specs.Bytes.{weighed}
-use Rattle.octets.proofs.Numbers.{term_le, weighed-next}
 use Rattle.octets.proofs.weight.tail.Given as goal
 
 -- `tail`: the sum so far, and a bound on it that keeps it within 32 bits.

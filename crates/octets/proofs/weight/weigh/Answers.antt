@@ -1,6 +1,5 @@
 use mathlib.Core.Path.{◌≡◌}
 use Prim.Native.Nat.{◌+◌}
-use borrow.Author.Rules.{rules}
 use native.Mathlib.Omega.{arith}
 use Rattle.octets.specs.Bytes.{weighed}
 use Rattle.octets.proofs.Numbers.{check_most}

@@ -1,8 +1,7 @@
 use mathlib.Core.Path.{◌∙◌}
-use borrow.Author.Rules.{rules}
 use native.Mathlib.Omega.{arith}
 use Rattle.octets.specs.Bytes.{Small}
-use Rattle.octets.proofs.Columns.{Columned, columned_begins, columned_lanes, columned_ends, columned_room, columned_turns}
+use Rattle.octets.proofs.Columns.{columned_begins, columned_lanes, columned_ends, columned_room, columned_turns}
 use Rattle.octets.proofs.weight.weigh_rows.Goals as goal
 use Rattle.octets.proofs.weight.weigh_rows.Goals.{After-shared_slice_known-1}
 

@@ -1,17 +1,13 @@
 use mathlib.Core.Path.{◌≡◌, sym, ap, ◌∙◌}
-use mathlib.Core.List.{[]}
-use Prim.Native.Nat.{ℕ, ◌-◌, ◌≤◌}
-use borrow.Author.Rules.{rules}
+use Prim.Native.Nat.{ℕ}
 use native.Mathlib.Numerals.{add-one}
 use native.Mathlib.Omega.{arith}
-use Rattle.lists.specs.Tables.{upto, tab}
+use Rattle.lists.specs.Tables.{tab}
 use Rattle.lists.proofs.Tests.{clash}
 use Rattle.orders.specs.Admission.{admit}
-use Rattle.orders.specs.Walk.{Lists}
 use Rattle.orders.proofs.Worklist.{holds_none, keeps, drops, awaits_more}
 use Rattle.sets.specs.Set.{member}
 use Rattle.sets.proofs.Laws.{none}
-use Rattle.planner.specs.Ranks.{demands, Awaits}
 use Rattle.planner.proofs.admission.admitted.Goals as goal
 use Rattle.planner.proofs.admission.admitted.Goals.{then-not-closes_cycle, else-not-closes_cycle}
 
@@ -48,12 +44,12 @@ loop-t-preserved c =
       omega arith,
       rw add-one
           (elim c.if-not-closes_cycle.branch [
-            then-not-closes_cycle w ↦ keeps _ _ _ _ old.1 _ (λ p. clash (sym (asked.1 p) ∙ w.if-not-closes_cycle.true)) (λ j. ap (λ (m : ℕ). member m j) w.kept-is ∙ w.with-kept.ensures j)
-          | else-not-closes_cycle w ↦ rw w.kept-is (drops _ _ _ _ old.1 (asked.0 w.if-not-closes_cycle.false))
+            | then-not-closes_cycle w ↦ keeps _ _ _ _ old.1 _ (λ p. clash (sym (asked.1 p) ∙ w.if-not-closes_cycle.true)) (λ j. ap (λ (m : ℕ). member m j) w.kept-is ∙ w.with-kept.ensures j)
+            | else-not-closes_cycle w ↦ rw w.kept-is (drops _ _ _ _ old.1 (asked.0 w.if-not-closes_cycle.false))
           ]),
       elim c.if-not-closes_cycle.branch [
-        then-not-closes_cycle w ↦ awaits_more _ _ _ (member c.loop-t.awaited) _ _ old.2 (λ j. ap (λ (m : ℕ). member m j) w.kept-is ∙ w.with-kept.ensures j) (λ j. ap (λ (m : ℕ). member m j) w.awaited-is ∙ w.union-awaited.ensures j)
-      | else-not-closes_cycle w ↦ rw (w.kept-is, w.awaited-is) old.2
+        | then-not-closes_cycle w ↦ awaits_more _ _ _ (member c.loop-t.awaited) _ _ old.2 (λ j. ap (λ (m : ℕ). member m j) w.kept-is ∙ w.with-kept.ensures j) (λ j. ap (λ (m : ℕ). member m j) w.awaited-is ∙ w.union-awaited.ensures j)
+        | else-not-closes_cycle w ↦ rw (w.kept-is, w.awaited-is) old.2
       ],
     )
 

@@ -1,13 +1,12 @@
 use mathlib.Core.Path.{◌≡◌, refl, sym, ap, ◌∙◌}
 use mathlib.Core.Bool.{Bool, true, false, ◌||◌}
-use Prim.Native.Nat.{ℕ, ◌-◌, ◌^◌, ◌<◌}
+use Prim.Native.Nat.{ℕ}
 use borrow.Author.Rules.{rules}
 use native.Mathlib.Omega.{arith}
 use Rattle.lists.proofs.Tests.{clash, minus-some}
-use Rattle.orders.proofs.Worklist.{Reached, begins, turns, finds, ends, way_back}
+use Rattle.orders.proofs.Worklist.{begins, turns, finds, ends, way_back}
 use Rattle.sets.specs.Set.{member}
 use Rattle.sets.proofs.Laws.{none, with_lt}
-use Rattle.planner.specs.Ranks.{demands}
 use Rattle.planner.proofs.admission.leads_back.Goals as goal
 use Rattle.planner.proofs.admission.leads_back.Goals.{After-lowest-d}
 
@@ -44,9 +43,8 @@ loop-kept-smaller c =
     omega (arith, with_lt c.loop-kept.done c.with-done.result c.lowest-d.result (found (goal.at.loop-kept-smaller c).After-lowest-d).1 c.with-done.ensures, c.with-done.type_inv)
 
 pub loop-kept-preserved : goal.loop-kept-preserved
-loop-kept-preserved c =
-    (
-      search rules,
-      turns _ _ _ _ _ _ _ _ c.loop-kept.invariant.1 (found (goal.at.loop-kept-preserved c).After-lowest-d).0 (sym c.has.ensures ∙ c.if-has.false)
-          (λ j. c.union-reached.ensures j ∙ ap (λ (b : Bool). member c.loop-kept.reached j || b) (c.both.ensures j)) c.with-done.ensures,
-    )
+loop-kept-preserved c = (
+  search rules,
+  turns _ _ _ _ _ _ _ _ c.loop-kept.invariant.1 (found (goal.at.loop-kept-preserved c).After-lowest-d).0 (sym c.has.ensures ∙ c.if-has.false)
+      (λ j. c.union-reached.ensures j ∙ ap (λ (b : Bool). member c.loop-kept.reached j || b) (c.both.ensures j)) c.with-done.ensures,
+)

@@ -1,12 +1,6 @@
-use mathlib.Core.Path.{◌≡◌, refl, sym, ap, ◌∙◌}
-use mathlib.Core.Bool.{Bool, true, false, ◌||◌}
-use Prim.Native.Nat.{ℕ, ◌-◌, ◌^◌, ◌<◌}
-use borrow.Author.Rules.{rules}
-use native.Mathlib.Omega.{arith}
-use Rattle.lists.proofs.Tests.{clash, minus-some}
-use Rattle.orders.proofs.Worklist.{Reached, begins, turns, finds, ends, way_back}
+use Prim.Native.Nat.{◌-◌, ◌^◌, ◌<◌}
+use Rattle.orders.proofs.Worklist.{Reached}
 use Rattle.sets.specs.Set.{member}
-use Rattle.sets.proofs.Laws.{none, with_lt}
 use Rattle.planner.specs.Ranks.{demands}
 use Rattle.planner.proofs.admission.leads_back.Given as goal
 

@@ -1,11 +1,10 @@
 use mathlib.Core.Path.{◌≡◌, ◌∙◌}
-use Prim.Native.Nat.{◌-◌, ◌≤◌, ◌<◌}
+use Prim.Native.Nat.{◌<◌}
 use native.Mathlib.Omega.{arith}
-use borrow.Author.Rules.{rules}
 use lib.ListN.{length}
 use Rattle.ledger.specs.Page.{page_tx}
 use Rattle.ledger.proofs.Pages.{good-counted}
-use Rattle.planner.proofs.Demanding.{Marking, read_small, marking_begins, marking_turns, marking_ends}
+use Rattle.planner.proofs.Demanding.{read_small, marking_begins, marking_turns, marking_ends}
 use Rattle.planner.proofs.demand.add_reads.Goals as goal
 use Rattle.planner.proofs.demand.add_reads.Goals.{After-read-x, At-loop-i, In-loop-i}
 
@@ -47,11 +46,10 @@ pub bounds-readers-key-in-loop-i : goal.bounds-readers-key-in-loop-i
 bounds-readers-key-in-loop-i c = omega (arith, small (goal.at.bounds-readers-key-in-loop-i c).After-read-x, long (goal.at.bounds-readers-key-in-loop-i c).At-loop-i)
 
 pub loop-i-preserved : goal.loop-i-preserved
-loop-i-preserved c =
-    (
-      omega (arith, c.loop-i-test.true),
-      marking_turns _ _ _ _ c.loop-i.i c.read-x.result _ c.loop-i.invariant.1 (within (goal.at.loop-i-preserved c).In-loop-i) c.read-x.ensures (omega (arith, small (goal.at.loop-i-preserved c).After-read-x, c.requires.rank_bound.1)) c.with.ensures,
-    )
+loop-i-preserved c = (
+  omega (arith, c.loop-i-test.true),
+  marking_turns _ _ _ _ c.loop-i.i c.read-x.result _ c.loop-i.invariant.1 (within (goal.at.loop-i-preserved c).In-loop-i) c.read-x.ensures (omega (arith, small (goal.at.loop-i-preserved c).After-read-x, c.requires.rank_bound.1)) c.with.ensures,
+)
 
 pub shape_of-readers : goal.shape_of-readers
 shape_of-readers c = c.loop-i.invariant.1.long

@@ -1,11 +1,6 @@
-use mathlib.Core.Path.{◌≡◌, ◌∙◌}
-use Prim.Native.Nat.{◌-◌, ◌≤◌, ◌<◌}
-use native.Mathlib.Omega.{arith}
-use borrow.Author.Rules.{rules}
-use lib.ListN.{length}
+use Prim.Native.Nat.{◌-◌, ◌≤◌}
 use Rattle.ledger.specs.Page.{page_tx}
-use Rattle.ledger.proofs.Pages.{good-counted}
-use Rattle.planner.proofs.Demanding.{Marking, read_small, marking_begins, marking_turns, marking_ends}
+use Rattle.planner.proofs.Demanding.{Marking}
 use Rattle.planner.proofs.demand.add_reads.Given as goal
 
 -- `planner::demand::add_reads` meets its contract. The invariant is `Marking`; the measure is how many reads are left. Assumes nothing.

@@ -1,10 +1,9 @@
 use mathlib.Core.Path.{◌≡◌, sym}
-use Prim.Native.Nat.{◌+◌, ◌-◌, ◌*◌, ◌≤◌}
+use Prim.Native.Nat.{◌+◌, ◌*◌, ◌≤◌}
 use native.Mathlib.Omega.{arith}
-use borrow.Author.Rules.{rules}
 use lib.ListN.{length}
 use Rattle.planner.specs.Ranks.{nth}
-use Rattle.planner.proofs.Demanding.{Reading, reading_begins, reading_turns}
+use Rattle.planner.proofs.Demanding.{reading_begins, reading_turns}
 use Rattle.planner.proofs.demand.all_readers.Goals as goal
 use Rattle.planner.proofs.demand.all_readers.Goals.{In-loop-r}
 

@@ -1,10 +1,5 @@
-use mathlib.Core.Path.{◌≡◌, sym}
-use Prim.Native.Nat.{◌+◌, ◌-◌, ◌*◌, ◌≤◌}
-use native.Mathlib.Omega.{arith}
-use borrow.Author.Rules.{rules}
-use lib.ListN.{length}
-use Rattle.planner.specs.Ranks.{nth}
-use Rattle.planner.proofs.Demanding.{Reading, reading_begins, reading_turns}
+use Prim.Native.Nat.{◌-◌, ◌≤◌}
+use Rattle.planner.proofs.Demanding.{Reading}
 use Rattle.planner.proofs.demand.all_readers.Given as goal
 
 -- `planner::demand::all_readers` meets its contract. The invariant is `Reading`; the measure is how many ranks are left. Assumes nothing.

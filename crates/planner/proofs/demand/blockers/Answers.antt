@@ -1,9 +1,9 @@
 use mathlib.Core.Path.{◌≡◌, refl}
-use Prim.Native.Nat.{◌+◌, ◌-◌, ◌*◌, ◌≤◌, ◌<◌}
+use Prim.Native.Nat.{◌+◌, ◌*◌, ◌≤◌, ◌<◌}
 use native.Mathlib.Omega.{arith}
 use lib.ListN.{length}
 use Rattle.planner.specs.Ranks.{nth}
-use Rattle.planner.proofs.Demanding.{Blocking, blocking_begins, blocking_turns, blocking_ends}
+use Rattle.planner.proofs.Demanding.{blocking_begins, blocking_turns, blocking_ends}
 use Rattle.planner.proofs.demand.blockers.Goals as goal
 use Rattle.planner.proofs.demand.blockers.Goals.{In-loop-r}
 

@@ -1,9 +1,5 @@
-use mathlib.Core.Path.{◌≡◌, refl}
-use Prim.Native.Nat.{◌+◌, ◌-◌, ◌*◌, ◌≤◌, ◌<◌}
-use native.Mathlib.Omega.{arith}
-use lib.ListN.{length}
-use Rattle.planner.specs.Ranks.{nth}
-use Rattle.planner.proofs.Demanding.{Blocking, blocking_begins, blocking_turns, blocking_ends}
+use Prim.Native.Nat.{◌-◌, ◌≤◌}
+use Rattle.planner.proofs.Demanding.{Blocking}
 use Rattle.planner.proofs.demand.blockers.Given as goal
 
 -- `planner::demand::blockers` meets its contract. The invariant is `Blocking`; the measure is how many ranks are left. Assumes nothing.

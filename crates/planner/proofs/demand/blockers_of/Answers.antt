@@ -1,11 +1,10 @@
-use Prim.Native.Nat.{◌-◌, ◌≤◌, ◌<◌}
+use Prim.Native.Nat.{◌<◌}
 use native.Mathlib.Omega.{arith}
-use borrow.Author.Rules.{rules}
 use lib.ListN.{length}
 use Rattle.sets.proofs.Laws.{none}
 use Rattle.ledger.specs.Page.{page_tx}
 use Rattle.ledger.proofs.Pages.{good-counted}
-use Rattle.planner.proofs.Demanding.{Written, write-small, written-more, written_all}
+use Rattle.planner.proofs.Demanding.{write-small, written-more, written_all}
 use Rattle.planner.proofs.demand.blockers_of.Goals as goal
 use Rattle.planner.proofs.demand.blockers_of.Goals.{After-write-x, In-loop-i}
 
@@ -35,11 +34,10 @@ pub bounds-readers-key : goal.bounds-readers-key
 bounds-readers-key c = small (goal.at.bounds-readers-key c).After-write-x
 
 pub loop-i-preserved : goal.loop-i-preserved
-loop-i-preserved c =
-    (
-      omega (arith, c.loop-i-test.true),
-      written-more c.args.readers.now (page_tx c.args.page.now).writes c.loop-i.i _ _ c.write-x.result c.loop-i.invariant.1 (within (goal.at.loop-i-preserved c).In-loop-i) c.write-x.ensures c.union-all.ensures,
-    )
+loop-i-preserved c = (
+  omega (arith, c.loop-i-test.true),
+  written-more c.args.readers.now (page_tx c.args.page.now).writes c.loop-i.i _ _ c.write-x.result c.loop-i.invariant.1 (within (goal.at.loop-i-preserved c).In-loop-i) c.write-x.ensures c.union-all.ensures,
+)
 
 pub without-requires : goal.without-requires
 without-requires c = omega (arith, c.requires.rank_bound)

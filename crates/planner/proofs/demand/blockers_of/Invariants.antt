@@ -1,11 +1,6 @@
-use Prim.Native.Nat.{◌-◌, ◌≤◌, ◌<◌}
-use native.Mathlib.Omega.{arith}
-use borrow.Author.Rules.{rules}
-use lib.ListN.{length}
-use Rattle.sets.proofs.Laws.{none}
+use Prim.Native.Nat.{◌-◌, ◌≤◌}
 use Rattle.ledger.specs.Page.{page_tx}
-use Rattle.ledger.proofs.Pages.{good-counted}
-use Rattle.planner.proofs.Demanding.{Written, write-small, written-more, written_all}
+use Rattle.planner.proofs.Demanding.{Written}
 use Rattle.planner.proofs.demand.blockers_of.Given as goal
 
 -- `planner::demand::blockers_of` meets its contract. The invariant is `Written`; the measure is how many writes are left. Assumes nothing.

@@ -1,9 +1,7 @@
 use mathlib.Core.Path.{◌≡◌, refl, sym, ap, ◌∙◌}
-use mathlib.Core.List.{◌++◌}
-use Prim.Native.Nat.{◌+◌, ◌-◌, ◌*◌, ◌≤◌}
+use Prim.Native.Nat.{◌+◌, ◌*◌, ◌≤◌}
 use native.Mathlib.Omega.{arith}
-use borrow.Author.Rules.{rules}
-use lib.ListN.{length, get_or, take, drop}
+use lib.ListN.{length, get_or}
 use Rattle.ledger.proofs.Placed.{part_long}
 use Rattle.ledger.proofs.Gated.{page_long}
 use Rattle.planning.specs.Plan.{gathered}
@@ -59,11 +57,10 @@ pub loop-j-smaller : goal.loop-j-smaller
 loop-j-smaller c = omega arith
 
 pub loop-j-preserved : goal.loop-j-preserved
-loop-j-preserved c =
-    (
-      omega (arith, c.loop-j-test.true),
-      gathers _ _ _ c.requires.k_in_bounds.0 c.requires.by_index c.loop-j.j _ _ _ c.loop-j-test.true c.loop-j.invariant.1 (c.copy.ensures ∙ c.page_at.ensures),
-    )
+loop-j-preserved c = (
+  omega (arith, c.loop-j-test.true),
+  gathers _ _ _ c.requires.k_in_bounds.0 c.requires.by_index c.loop-j.j _ _ _ c.loop-j-test.true c.loop-j.invariant.1 (c.copy.ensures ∙ c.page_at.ensures),
+)
 
 pub shape_of-out : goal.shape_of-out
 shape_of-out c = long (goal.at.shape_of-out c).At-loop-j

@@ -1,13 +1,8 @@
-use mathlib.Core.Path.{◌≡◌, refl, sym, ap, ◌∙◌}
+use mathlib.Core.Path.{◌≡◌}
 use mathlib.Core.List.{◌++◌}
-use Prim.Native.Nat.{◌+◌, ◌-◌, ◌*◌, ◌≤◌}
-use native.Mathlib.Omega.{arith}
-use borrow.Author.Rules.{rules}
-use lib.ListN.{length, get_or, take, drop}
-use Rattle.ledger.proofs.Placed.{part_long}
-use Rattle.ledger.proofs.Gated.{page_long}
+use Prim.Native.Nat.{◌-◌, ◌*◌, ◌≤◌}
+use lib.ListN.{take, drop}
 use Rattle.planning.specs.Plan.{gathered}
-use Rattle.planner.proofs.Filling.{gathers, gathers_long}
 use Rattle.planner.proofs.fill.fill_out.Given as goal
 
 -- `planner::fill::fill_out` meets its contract. The invariant: the first j pages are gathered; the measure is what is left of k. Assumes nothing.

@@ -1,9 +1,6 @@
 use mathlib.Core.Path.{◌≡◌, refl, ap₂, ◌∙◌}
-use mathlib.Core.List.{◌++◌}
-use Prim.Native.Nat.{◌-◌, ◌≤◌}
 use native.Mathlib.Omega.{arith}
-use borrow.Author.Rules.{rules}
-use lib.ListN.{length, drop, set}
+use lib.ListN.{length, set}
 use mathlib.Core.Bool.{cond}
 use Rattle.sets.specs.Set.{member}
 use Rattle.lists.specs.Tables.{tab}

@@ -1,13 +1,10 @@
-use mathlib.Core.Path.{◌≡◌, refl, ap₂, ◌∙◌}
+use mathlib.Core.Path.{◌≡◌}
 use mathlib.Core.List.{◌++◌}
 use Prim.Native.Nat.{◌-◌, ◌≤◌}
-use native.Mathlib.Omega.{arith}
-use borrow.Author.Rules.{rules}
-use lib.ListN.{length, drop, set}
+use lib.ListN.{drop}
 use mathlib.Core.Bool.{cond}
 use Rattle.sets.specs.Set.{member}
 use Rattle.lists.specs.Tables.{tab}
-use Rattle.planner.proofs.Filling.{fills, fills_long}
 use Rattle.planner.proofs.fill.fill_verdicts.Given as goal
 
 -- `planner::fill::fill_verdicts` meets its contract. The invariant: the first i verdicts are filled; the measure is what is left of m. Assumes nothing.

@@ -1,12 +1,9 @@
 use mathlib.Core.Path.{◌≡◌, sym, ap₂, ◌∙◌}
 use mathlib.Core.Bool.{◌||◌}
-use Prim.Native.Nat.{ℕ, ◌-◌, ◌≤◌, ◌<◌}
+use Prim.Native.Nat.{◌<◌}
 use native.Mathlib.Omega.{arith}
-use borrow.Author.Rules.{rules}
 use lib.Dec.{eqb}
-use lib.ListN.{length, get_or, take}
-use Rattle.lists.specs.Members.{any}
-use Rattle.sets.specs.Set.{member}
+use lib.ListN.{length, get_or}
 use Rattle.sets.proofs.Laws.{none}
 use Rattle.lists.proofs.Tests.{eqb_turned}
 use Rattle.lists.proofs.Membership.{any_next}

@@ -1,15 +1,9 @@
-use mathlib.Core.Path.{◌≡◌, sym, ap₂, ◌∙◌}
-use mathlib.Core.Bool.{◌||◌}
-use Prim.Native.Nat.{ℕ, ◌-◌, ◌≤◌, ◌<◌}
-use native.Mathlib.Omega.{arith}
-use borrow.Author.Rules.{rules}
+use mathlib.Core.Path.{◌≡◌}
+use Prim.Native.Nat.{ℕ, ◌-◌, ◌≤◌}
 use lib.Dec.{eqb}
-use lib.ListN.{length, get_or, take}
+use lib.ListN.{take}
 use Rattle.lists.specs.Members.{any}
 use Rattle.sets.specs.Set.{member}
-use Rattle.sets.proofs.Laws.{none}
-use Rattle.lists.proofs.Tests.{eqb_turned}
-use Rattle.lists.proofs.Membership.{any_next}
 use Rattle.planner.proofs.fill.placed.Given as goal
 
 -- `planner::fill::placed` meets its contract. The invariant: the set has the first j entries; the measure is what is left of k. Assumes nothing.

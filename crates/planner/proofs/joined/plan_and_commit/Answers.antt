@@ -1,14 +1,13 @@
 use Rattle.ledger.proofs.Gated.{Through, gate_open, gate_fault, open_own}
 use Rattle.ledger.specs.Inner.{applied}
 use Rattle.ledger.specs.Gate.{pages, lent_row}
-use Rattle.ledger.specs.State.{State, state_of}
+use Rattle.ledger.specs.State.{state_of}
 use Rattle.planner.proofs.Answered.{few, named_below, named_txs}
 use Rattle.planning.proofs.Joined.{own, lists_long, joined-refused, joined-taken}
-use Rattle.refusals.specs.Fault.{Row, clear, finding}
+use Rattle.refusals.specs.Fault.{clear, finding}
 use Prim.Native.Nat.{◌≤◌}
-use borrow.Author.Rules.{rules}
 use lib.ListN.{length}
-use mathlib.Core.List.{List, [], ◌∷◌}
+use mathlib.Core.List.{[], ◌∷◌}
 use mathlib.Core.Path.{◌≡◌, refl, sym, ap, ◌∙◌}
 use native.Mathlib.Omega.{arith}
 use Rattle.planner.proofs.joined.plan_and_commit.Goals as goal
@@ -42,23 +41,23 @@ pub plan_pages-count-requires : goal.plan_pages-count-requires
 plan_pages-count-requires c =
     let o = gated (goal.at.plan_pages-count-requires c).In_default in
     record {
-  batch = o.ready;
-  places_len = o.level.places;
-  differ = o.differ;
-  tickets_of = c.gate_fault-found.ensures.tickets_of (ap finding c.in_default.is);
-  m_in_bounds = long (goal.at.plan_pages-count-requires c).In_default;
-}
+      batch = o.ready;
+      places_len = o.level.places;
+      differ = o.differ;
+      tickets_of = c.gate_fault-found.ensures.tickets_of (ap finding c.in_default.is);
+      m_in_bounds = long (goal.at.plan_pages-count-requires c).In_default;
+    }
 
 pub apply_pages-requires : goal.apply_pages-requires
 apply_pages-requires c =
     let o = gated (goal.at.apply_pages-requires c).In_default in
     let k = few _ _ _ _ _ _ _ c.plan_pages-count.ensures in
     record {
-  batch = o.ready;
-  level = o.level;
-  k_bound = (omega (arith, k, o.ready.few), omega (arith, k, long (goal.at.apply_pages-requires c).In_default, c.plan_pages-count.auto));
-  by_index = named_below _ _ _ _ _ _ _ c.plan_pages-count.ensures;
-}
+      batch = o.ready;
+      level = o.level;
+      k_bound = (omega (arith, k, o.ready.few), omega (arith, k, long (goal.at.apply_pages-requires c).In_default, c.plan_pages-count.auto));
+      by_index = named_below _ _ _ _ _ _ _ c.plan_pages-count.ensures;
+    }
 
 pub returns : goal.returns
 returns c =

@@ -1,13 +1,11 @@
 use mathlib.Core.Path.{◌≡◌, sym, ap, ◌∙◌}
-use Prim.Native.Nat.{◌-◌, ◌≤◌}
 use native.Mathlib.Omega.{arith}
-use borrow.Author.Rules.{rules}
 use Rattle.ledger.specs.Page.{page_tx}
 use Rattle.ledger.specs.State.{versions_in}
 use Rattle.ledger.specs.Gate.{tx_at}
 use Rattle.ledger.specs.Commit.{passes}
 use Rattle.planning.specs.Plan.{current}
-use Rattle.planner.proofs.Surveying.{Passed, passed_none, passed-more, passed_less}
+use Rattle.planner.proofs.Surveying.{passed_none, passed-more, passed_less}
 use Rattle.planner.proofs.plan.current.Goals as goal
 use Rattle.planner.proofs.plan.current.Goals.{then-passes, else-passes}
 
@@ -29,8 +27,8 @@ loop-i-preserved c =
     c.passes.ensures ∙ ap (λ p. passes (versions_in c.args.blocks.now c.args.places.now) (page_tx p)) c.page_at.ensures in (
       omega (arith, c.loop-i-test.true),
       elim c.if-passes.branch [
-        then-passes w ↦ rw w.set-is (passed-more _ _ _ c.loop-i.i c.loop-i.invariant.1 (sym found ∙ w.if-passes.true) w.with-set.ensures)
-      | else-passes w ↦ rw w.set-is (passed_less _ _ c.loop-i.i c.loop-i.invariant.1 (sym found ∙ w.if-passes.false))
+        | then-passes w ↦ rw w.set-is (passed-more _ _ _ c.loop-i.i c.loop-i.invariant.1 (sym found ∙ w.if-passes.true) w.with-set.ensures)
+        | else-passes w ↦ rw w.set-is (passed_less _ _ c.loop-i.i c.loop-i.invariant.1 (sym found ∙ w.if-passes.false))
       ],
     )
 

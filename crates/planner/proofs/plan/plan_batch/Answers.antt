@@ -1,16 +1,15 @@
 use Rattle.ledger.proofs.Gated.{Through, gate_open, gate_fault, open_own}
 use Rattle.ledger.specs.Gate.{pages, lent_row}
-use Rattle.ledger.specs.State.{State, state_of}
+use Rattle.ledger.specs.State.{state_of}
 use Rattle.planner.proofs.Answered.{few, named_below, plan_copied}
 use Rattle.planning.proofs.Opened.{own, not_short, plan-refused, plan_open}
 use Rattle.planning.specs.Plan.{short}
-use Rattle.refusals.specs.Fault.{Row, clear, finding}
+use Rattle.refusals.specs.Fault.{clear, finding}
 use Prim.Native.Nat.{ℕ, ◌*◌, ◌≤◌, ◌<◌}
-use borrow.Author.Rules.{rules}
 use lib.Dec.{ltb}
 use lib.ListN.{length, get_or}
 use mathlib.Core.Bool.{◌||◌}
-use mathlib.Core.List.{List, [], ◌∷◌}
+use mathlib.Core.List.{[], ◌∷◌}
 use mathlib.Core.Path.{◌≡◌, refl, sym, ap, ap₂, ◌∙◌}
 use native.Mathlib.Nat.{mul_comm}
 use native.Mathlib.Omega.{arith}
@@ -23,8 +22,8 @@ is-short c =
     let m = pages c.args.batch.now in
     let lists = c.lists_short.ensures in
     elim c.if-lists_short.branch [
-      then-lists_short w ↦ w.short-is ∙ w.if-lists_short.true ∙ ap (λ x. x || ltb (length c.args.out.now) (512 * m)) (sym w.if-lists_short.true ∙ lists)
-    | else-lists_short w ↦ w.short-is ∙ ap₂ (λ x y. x || ltb (length c.args.out.now) y) (sym w.if-lists_short.false ∙ lists) (mul_comm m 512)
+      | then-lists_short w ↦ w.short-is ∙ w.if-lists_short.true ∙ ap (λ x. x || ltb (length c.args.out.now) (512 * m)) (sym w.if-lists_short.true ∙ lists)
+      | else-lists_short w ↦ w.short-is ∙ ap₂ (λ x y. x || ltb (length c.args.out.now) y) (sym w.if-lists_short.false ∙ lists) (mul_comm m 512)
     ]
 
 -- so its table is plan's
@@ -51,12 +50,12 @@ plan_pages-count-requires c =
     let o = gated (goal.at.plan_pages-count-requires c).In_default (is-short (goal.at.plan_pages-count-requires c).Joined-lists_short) in
     let l = long (goal.at.plan_pages-count-requires c).In_default (is-short (goal.at.plan_pages-count-requires c).Joined-lists_short) in
     record {
-  batch = o.ready;
-  places_len = o.level.places;
-  differ = o.differ;
-  tickets_of = c.gate_fault-found.ensures.tickets_of (ap finding c.in_default.is);
-  m_in_bounds = (l.0, l.1);
-}
+      batch = o.ready;
+      places_len = o.level.places;
+      differ = o.differ;
+      tickets_of = c.gate_fault-found.ensures.tickets_of (ap finding c.in_default.is);
+      m_in_bounds = (l.0, l.1);
+    }
 
 low : (c : After-plan_pages-count) (j : ℕ) → j < c.plan_pages-count.result → get_or c.plan_pages-count.new.order j 0 < pages c.args.batch.now
 low c = named_below _ _ _ _ _ _ _ c.plan_pages-count.ensures
@@ -65,9 +64,9 @@ pub fill_out-requires : goal.fill_out-requires
 fill_out-requires c =
     let l = long (goal.at.fill_out-requires c).In_default (is-short (goal.at.fill_out-requires c).Joined-lists_short) in
     let k = few _ _ _ _ _ _ _ c.plan_pages-count.ensures in record {
-  k_in_bounds = (omega (arith, k, l.1, c.plan_pages-count.auto), omega (arith, k, l.2));
-  by_index = λ j h. let within : j < c.plan_pages-count.result = omega arith in omega (arith, low (goal.at.fill_out-requires c).After-plan_pages-count j within, (gated (goal.at.fill_out-requires c).In_default (is-short (goal.at.fill_out-requires c).Joined-lists_short)).ready.whole);
-}
+      k_in_bounds = (omega (arith, k, l.1, c.plan_pages-count.auto), omega (arith, k, l.2));
+      by_index = λ j h. let within : j < c.plan_pages-count.result = omega arith in omega (arith, low (goal.at.fill_out-requires c).After-plan_pages-count j within, (gated (goal.at.fill_out-requires c).In_default (is-short (goal.at.fill_out-requires c).Joined-lists_short)).ready.whole);
+    }
 
 pub returns : goal.returns
 returns c =

@@ -4,8 +4,7 @@ use lib.ListN.{length}
 use native.Mathlib.Omega.{arith}
 use borrow.Author.Rules.{rules}
 use Rattle.sets.proofs.Laws.{within, without-lt}
-use Rattle.planner.specs.Ranks.{demands, nth}
-use Rattle.planner.proofs.Placing.{Placing, begins, room, turns, all, ends}
+use Rattle.planner.proofs.Placing.{begins, room, turns, all, ends}
 use Rattle.planner.proofs.schedule.fill_order.Goals as goal
 use Rattle.planner.proofs.schedule.fill_order.Goals.{After-next_free-p, After-without-left}
 
@@ -51,6 +50,6 @@ returns c =
     let e : c.loop-left.left ≡ 0 = c.loop-left-test.false in
     let none_left = rw e at c.loop-left.invariant in
     record {
-  value = all _ _ _ _ _ _ none_left;
-  order_after = ends _ _ _ _ _ _ none_left;
-}
+      value = all _ _ _ _ _ _ none_left;
+      order_after = ends _ _ _ _ _ _ none_left;
+    }

@@ -1,11 +1,5 @@
-use mathlib.Core.Path.{◌≡◌}
-use Prim.Native.Nat.{◌<◌}
-use lib.ListN.{length}
-use native.Mathlib.Omega.{arith}
-use borrow.Author.Rules.{rules}
-use Rattle.sets.proofs.Laws.{within, without-lt}
 use Rattle.planner.specs.Ranks.{demands, nth}
-use Rattle.planner.proofs.Placing.{Placing, begins, room, turns, all, ends}
+use Rattle.planner.proofs.Placing.{Placing}
 use Rattle.planner.proofs.schedule.fill_order.Given as goal
 
 -- `planner::schedule::fill_order` meets its contract. The invariant is `Placing`; the set of those left is the measure. Assumes nothing.

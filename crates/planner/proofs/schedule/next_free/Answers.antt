@@ -6,8 +6,7 @@ use borrow.Author.Rules.{rules}
 use native.Mathlib.Omega.{arith}
 use Rattle.sets.specs.Set.{member}
 use Rattle.sets.proofs.Laws.{without-lt}
-use Rattle.planner.specs.Ranks.{demands}
-use Rattle.planner.proofs.Candidates.{Untried, Blocks, begins, blocked, passes, found, never}
+use Rattle.planner.proofs.Candidates.{begins, blocked, passes, found, never}
 use Rattle.planner.proofs.schedule.next_free.Goals as goal
 use Rattle.planner.proofs.schedule.next_free.Goals.{After-drop_lowest-open}
 
@@ -51,11 +50,10 @@ pub loop-others-smaller : goal.loop-others-smaller
 loop-others-smaller c = without-lt _ _ _ c.lowest-q.ensures.isin (c.drop_lowest-others.ensures _ c.lowest-q.ensures)
 
 pub loop-others-preserved : goal.loop-others-preserved
-loop-others-preserved c =
-    (
-      c.loop-others.invariant.0,
-      passes _ _ _ _ _ _ c.loop-others.invariant.1 (sym c.has.ensures ∙ c.if-has.false) (c.drop_lowest-others.ensures _ c.lowest-q.ensures),
-    )
+loop-others-preserved c = (
+  c.loop-others.invariant.0,
+  passes _ _ _ _ _ _ c.loop-others.invariant.1 (sym c.has.ensures ∙ c.if-has.false) (c.drop_lowest-others.ensures _ c.lowest-q.ensures),
+)
 
 pub returns-in-tickets : goal.returns-in-tickets
 returns-in-tickets c =

@@ -1,13 +1,6 @@
-use mathlib.Core.Path.{◌≡◌, refl, sym, ◌∙◌}
-use mathlib.Core.Bool.{not, ◌&&◌}
-use Prim.Native.Nat.{ℕ}
-use lib.Dec.{eqb}
-use borrow.Author.Rules.{rules}
-use native.Mathlib.Omega.{arith}
-use Rattle.sets.specs.Set.{member}
-use Rattle.sets.proofs.Laws.{without-lt}
+use mathlib.Core.Path.{◌≡◌}
 use Rattle.planner.specs.Ranks.{demands}
-use Rattle.planner.proofs.Candidates.{Untried, Blocks, begins, blocked, passes, found, never}
+use Rattle.planner.proofs.Candidates.{Untried, Blocks}
 use Rattle.planner.proofs.schedule.next_free.Given as goal
 
 -- `planner::schedule::next_free` meets its contract. The invariants are `Untried` of the candidates and `Blocks` of the blockers; each set is its loop's measure. Assumes nothing.

@@ -1,10 +1,7 @@
 use Prim.Native.Nat.{◌-◌}
-use native.Mathlib.Omega.{arith}
 use lib.ListN.{get_or}
 use lib.Dec.{eqb}
-use borrow.Author.Rules.{rules}
-use borrow.Author.Tests.{eq-eqb, ne_eqb}
-use Rattle.lists.proofs.Loops.{Unfound, begins, found, passes, ends}
+use Rattle.lists.proofs.Loops.{Unfound}
 use Rattle.report.proofs.lines.find_place.Given as goal
 
 -- `find_place`: a search by index.

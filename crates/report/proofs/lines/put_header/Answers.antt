@@ -1,20 +1,10 @@
 use native.Mathlib.Omega.{arith}
-use borrow.Author.Rules.{rules}
 use Rattle.lists.specs.Ascii.{ascii}
 use Rattle.report.specs.Listing.{header}
 use Rattle.report.proofs.Puts.{◌then◌}
 use Rattle.report.proofs.lines.put_header.Goals as goal
 
 -- `put_header`: its parts one after the other.
--- ‹slice-aggregate-put-bytes : tie.Need-slice-aggregate-put-bytes
--- slice-aggregate-put-bytes c = search rules›
-
--- ‹slice-aggregate-put-bytes-2 : tie.Need-slice-aggregate-put-bytes-2
--- slice-aggregate-put-bytes-2 c = search rules›
-
--- ‹slice-aggregate-put-bytes-3 : tie.Need-slice-aggregate-put-bytes-3
--- slice-aggregate-put-bytes-3 c = search rules›
-
 pub returns : goal.returns
 unfolding header ascii
 returns c =

@@ -1,7 +1,5 @@
 use Rattle.report.proofs.Puts.{none, put_as}
 use Rattle.report.proofs.Texts.{line_none, line_present}
-use borrow.Author.Rules.{rules}
-use borrow.Author.Tests.{not-true, not-false}
 use mathlib.Core.List.{[]}
 use mathlib.Core.Path.{sym, ◌∙◌}
 use mir.Facts.{to_z-of_z}
@@ -18,6 +16,6 @@ returns-then-not-is_present c =
 pub returns : goal.returns
 returns c =
     let a = c.args in
-    let z = to_z-of_z {w = w64} {z = a.e.value} (record { sfits = c.struct_told-1.given.1.0.1 }) in
+    let z = to_z-of_z {w = w64} {z = a.e.value} (record { sfits = omega arith }) in
     let e = sym c.is_present.ensures ∙ c.if-not-is_present.false in
     (c.put_state.ensures.0, put_as _ _ _ _ _ _ (line_present a.key a.e e) (rw z at c.put_state.ensures.1))

@@ -1,11 +1,9 @@
-use Prim.Native.Nat.{ℕ, ◌+◌, ◌*◌, ◌-◌, ◌≤◌}
+use Prim.Native.Nat.{ℕ}
 use mathlib.Core.Path.{◌≡◌, refl, ap}
 use native.Mathlib.Omega.{arith}
 use lib.ListN.{length}
-use borrow.Author.Rules.{rules}
 use Rattle.lists.specs.Tables.{flat}
 use Rattle.ledger.specs.State.{state_of}
-use Rattle.report.specs.Put.{Put}
 use Rattle.report.specs.Listing.{key_line}
 use Rattle.report.proofs.Texts.{key_line_lem}
 use Rattle.report.proofs.Puts.{none, put_as, more_lines}
@@ -19,7 +17,7 @@ pub loop-key-preserved : goal.loop-key-preserved
 loop-key-preserved c =
     let a = c.args in (
       omega (arith, c.loop-key-test.true),
-      omega (arith, c.put_key-next.auto.0, c.loop-key.invariant.1),
+      omega arith,
       omega (arith, c.put_key-next.ensures.0, c.loop-key.invariant.2),
       more_lines _ _ _ _ _ _ _ _ _ (key_line_lem (state_of a.blocks.now a.places.now a.values.now) c.loop-key.key _ c.entry_at-entry.ensures) c.loop-key.invariant.3 c.put_key-next.ensures.1,
     )

@@ -1,14 +1,10 @@
-use Prim.Native.Nat.{ℕ, ◌+◌, ◌*◌, ◌-◌, ◌≤◌}
-use mathlib.Core.Path.{◌≡◌, refl, ap}
-use native.Mathlib.Omega.{arith}
+use Prim.Native.Nat.{◌+◌, ◌*◌, ◌-◌, ◌≤◌}
+use mathlib.Core.Path.{◌≡◌}
 use lib.ListN.{length}
-use borrow.Author.Rules.{rules}
 use Rattle.lists.specs.Tables.{flat}
 use Rattle.ledger.specs.State.{state_of}
 use Rattle.report.specs.Put.{Put}
 use Rattle.report.specs.Listing.{key_line}
-use Rattle.report.proofs.Texts.{key_line_lem}
-use Rattle.report.proofs.Puts.{none, put_as, more_lines}
 use Rattle.report.proofs.lines.put_keys.Given as goal
 
 -- `put_keys`: a line for each key.

@@ -1,5 +1,4 @@
 use native.Mathlib.Omega.{arith}
-use borrow.Author.Rules.{rules}
 use Rattle.lists.specs.Ascii.{ascii}
 use Rattle.report.specs.Listing.{page_line}
 use Rattle.report.proofs.Puts.{◌then◌}

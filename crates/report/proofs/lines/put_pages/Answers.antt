@@ -1,14 +1,11 @@
-use Prim.Native.Nat.{ℕ, ◌+◌, ◌*◌, ◌-◌, ◌/◌, ◌≤◌}
+use Prim.Native.Nat.{ℕ, ◌/◌}
 use mathlib.Core.Path.{◌≡◌, refl, ap, ◌∙◌}
 use mathlib.Core.List.{List}
 use native.Mathlib.Omega.{arith}
 use lib.ListN.{length, get_or}
-use borrow.Author.Rules.{rules}
 use Rattle.lists.specs.Tables.{flat}
 use Rattle.ledger.specs.Page.{page_tx}
-use Rattle.ledger.specs.Gate.{tx_at}
 use Rattle.ledger.proofs.Gated.{page_long}
-use Rattle.report.specs.Put.{Put}
 use Rattle.report.specs.Listing.{page_line, place_text}
 use Rattle.report.proofs.Puts.{none, put_as, more_lines}
 use Rattle.report.proofs.lines.put_pages.Goals as goal
@@ -29,7 +26,7 @@ loop-i-preserved c =
     let v = get_or a.verdicts.now c.loop-i.i 0 in
     let e = c.ticket-ticket.ensures ∙ ap (λ (x : List ℕ). (page_tx x).ticket) c.page_at.ensures in (
       omega (arith, c.loop-i-test.true),
-      omega (arith, c.put_page-next.auto.0, c.loop-i.invariant.1),
+      omega arith,
       omega (arith, c.put_page-next.ensures.0, c.loop-i.invariant.2),
       more_lines _ _ _ _ _ _ _ _ _ (ap (λ (x : ℕ). page_line x v (place_text a.order.now a.k c.loop-i.i)) e) c.loop-i.invariant.3 c.put_page-next.ensures.1,
     )

@@ -1,16 +1,11 @@
-use Prim.Native.Nat.{ℕ, ◌+◌, ◌*◌, ◌-◌, ◌/◌, ◌≤◌}
-use mathlib.Core.Path.{◌≡◌, refl, ap, ◌∙◌}
+use Prim.Native.Nat.{ℕ, ◌+◌, ◌*◌, ◌-◌, ◌≤◌}
+use mathlib.Core.Path.{◌≡◌}
 use mathlib.Core.List.{List}
-use native.Mathlib.Omega.{arith}
 use lib.ListN.{length, get_or}
-use borrow.Author.Rules.{rules}
 use Rattle.lists.specs.Tables.{flat}
-use Rattle.ledger.specs.Page.{page_tx}
 use Rattle.ledger.specs.Gate.{tx_at}
-use Rattle.ledger.proofs.Gated.{page_long}
 use Rattle.report.specs.Put.{Put}
 use Rattle.report.specs.Listing.{page_line, place_text}
-use Rattle.report.proofs.Puts.{none, put_as, more_lines}
 use Rattle.report.proofs.lines.put_pages.Given as goal
 
 -- `put_pages`: a line for each page.

@@ -1,5 +1,4 @@
 use native.Mathlib.Omega.{arith}
-use borrow.Author.Rules.{rules}
 use Rattle.report.proofs.Puts.{put_as}
 use Rattle.report.proofs.Parts.{placed_some, placed_none}
 use Rattle.report.proofs.lines.put_place.Goals as goal

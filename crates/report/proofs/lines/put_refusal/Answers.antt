@@ -1,13 +1,10 @@
 use native.Mathlib.Omega.{arith}
-use borrow.Author.Rules.{rules}
 use Rattle.lists.specs.Ascii.{ascii}
 use Rattle.report.specs.Listing.{refusal}
 use Rattle.report.proofs.Puts.{◌then◌}
 use Rattle.report.proofs.lines.put_refusal.Goals as goal
 
 -- `put_refusal`: its parts one after the other.
--- ‹slice-aggregate-put-bytes : tie.Need-slice-aggregate-put-bytes
--- slice-aggregate-put-bytes c = search rules›
 
 pub returns : goal.returns
 unfolding refusal ascii

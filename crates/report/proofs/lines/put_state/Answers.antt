@@ -1,14 +1,9 @@
 use native.Mathlib.Omega.{arith}
 use mir.Facts.{to_z-of_z}
-use borrow.Author.Rules.{rules}
 use Rattle.lists.specs.Ascii.{ascii}
 use Rattle.report.specs.Listing.{state_line}
 use Rattle.report.proofs.Puts.{◌then◌}
 use Rattle.report.proofs.lines.put_state.Goals as goal
-
-pub put_byte-requires : goal.put_byte-requires
-put_byte-requires c =
-    omega (arith, c.put_number-first.ensures.0, c.put_byte-second.ensures.0, c.put_number-third.ensures.0, c.put_byte-fourth.ensures.0, c.put_number-fifth.ensures.0, c.put_byte-sixth.ensures.0, c.put_tonnes-seventh.ensures.0, c.put_number-first.auto.0, c.put_byte-second.auto.0, c.put_number-third.auto.0, c.put_byte-fourth.auto.0, c.put_number-fifth.auto.0, c.put_byte-sixth.auto.0, c.put_tonnes-seventh.auto.0)
 
 pub returns : goal.returns
 unfolding state_line ascii

@@ -1,6 +1,5 @@
 use mathlib.Core.Path.{refl, sym}
 use lib.Seq.{length-take-le}
-use borrow.Author.Rules.{rules}
 use Rattle.report.specs.declared.program.Input.TheVariants.{TooLong, Unread}
 use Rattle.report.proofs.Told.{told-read, within}
 use Rattle.report.proofs.program.answer.Goals as goal
@@ -16,7 +15,7 @@ returns-in-Bytes c =
 pub returns-in-TooLong : goal.returns-in-TooLong
 returns-in-TooLong c =
     let x = c.fill_refusal.ensures in
-    told-read _ _ _ _ TooLong _ _ _ c.in-TooLong.is (x.0, (x.1, refl))
+    told-read _ _ _ _ TooLong _ _ _ c.in-TooLong.is (record { result_value = x.value; text_after = x.out_after; left_after = refl })
 
 pub returns-in-Unread : goal.returns-in-Unread
-returns-in-Unread c = told-read _ _ _ _ Unread _ _ _ c.in-Unread.is (refl, (refl, refl))
+returns-in-Unread c = told-read _ _ _ _ Unread _ _ _ c.in-Unread.is (record { result_value = refl; text_after = refl; left_after = refl })

@@ -1,28 +1,26 @@
+-- `list_input`: the refusal's line, or the listing of what the joined call leaves.
+use Prim.Native.Nat.{ℕ}
 use mathlib.Core.Path.{◌≡◌, sym, ap, ◌∙◌}
-use borrow.Author.Rules.{rules}
+use mathlib.Core.List.{List}
+use lib.ListN.{replicate}
 use Rattle.refusals.specs.declared.Answer.{Answer}
-use Rattle.ledger.specs.State.{State, state_of}
-use Rattle.planning.specs.Joined.{Joined, joined}
-use Rattle.report.specs.Program.{done}
+use Rattle.ledger.specs.State.{State}
+use Rattle.planning.specs.Joined.{joined, plan_and_commit}
+use Rattle.report.specs.Program.{start_number, done}
 use Rattle.report.proofs.Told.{told-refused, told-listed}
 use Rattle.report.proofs.program.list_input.Goals as goal
-use Rattle.report.proofs.program.list_input.Goals.{After-plan_and_commit-answer}
-
--- what the joined call leaves, under an answer
-abbrev leaves : After-plan_and_commit-answer → Joined
-leaves c a =
-    let l = c.plan_and_commit-answer.new.1 in
-    joined a (state_of l.0 l.1.0 l.1.1.0) l.1.1.1.1.0 l.1.1.1.1.1.0
 
 -- where the answer is known
-is-done : (c : After-plan_and_commit-answer) (a : Answer) → c.plan_and_commit-answer.result ≡ a → leaves c a ≡ done c.args.input.now (state_of c.args.blocks.now c.args.places.now c.args.values.now)
+is-done : (input : List ℕ) (s t : State) (vs os : List ℕ) (r a : Answer) → r ≡ a → joined r t vs os ≡ plan_and_commit input s start_number (replicate 64 0) (replicate 64 0) → joined a t vs os ≡ done input s
 unfolding done
-is-done c a e = ap (leaves c) (sym e) ∙ c.plan_and_commit-answer.ensures
+is-done input s t vs os r a e d = ap (λ (x : Answer). joined x t vs os) (sym e) ∙ d
 
 pub returns-in-Refused : goal.returns-in-Refused
 returns-in-Refused c =
-    told-refused _ _ _ _ _ _ _ (is-done (goal.at.returns-in-Refused c).After-plan_and_commit-answer _ c.in-Refused.is) _ _ c.fill_refusal.ensures
+    let e = c.fill_refusal.ensures in
+    told-refused _ _ _ _ _ _ _ (is-done _ _ _ _ _ _ _ c.in-Refused.is c.plan_and_commit-answer.ensures) _ _ (e.value, e.out_after)
 
 pub returns-in-Count : goal.returns-in-Count
 returns-in-Count c =
-    told-listed _ _ _ _ _ _ _ (is-done (goal.at.returns-in-Count c).After-plan_and_commit-answer _ c.in-Count.is) _ _ c.fill_listing.ensures
+    let e = c.fill_listing.ensures in
+    told-listed _ _ _ _ _ _ _ (is-done _ _ _ _ _ _ _ c.in-Count.is c.plan_and_commit-answer.ensures) _ _ (e.result_value, e.out_after)

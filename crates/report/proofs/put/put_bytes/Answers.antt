@@ -1,9 +1,6 @@
-use Prim.Native.Nat.{◌+◌, ◌-◌, ◌≤◌}
-use mathlib.Core.Path.{◌≡◌, refl}
+use mathlib.Core.Path.{refl}
 use native.Mathlib.Omega.{arith}
-use lib.ListN.{length, take}
 use borrow.Author.Rules.{rules}
-use Rattle.report.specs.Put.{Put}
 use Rattle.report.proofs.Puts.{more, whole}
 use Rattle.report.proofs.put.put_bytes.Goals as goal
 

@@ -1,10 +1,7 @@
 use Prim.Native.Nat.{◌+◌, ◌-◌, ◌≤◌}
-use mathlib.Core.Path.{◌≡◌, refl}
-use native.Mathlib.Omega.{arith}
+use mathlib.Core.Path.{◌≡◌}
 use lib.ListN.{length, take}
-use borrow.Author.Rules.{rules}
 use Rattle.report.specs.Put.{Put}
-use Rattle.report.proofs.Puts.{more, whole}
 use Rattle.report.proofs.put.put_bytes.Given as goal
 
 -- `put_bytes`: the text byte by byte.

@@ -1,5 +1,4 @@
 use native.Mathlib.Omega.{arith}
-use borrow.Author.Rules.{rules}
 use Rattle.report.proofs.Parts.{narrow_32, number}
 use Rattle.report.proofs.put.put_number.Goals as goal
 

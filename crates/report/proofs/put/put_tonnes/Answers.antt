@@ -1,6 +1,5 @@
 use native.Mathlib.Omega.{arith}
 use mir.Facts.{to_z-of_z}
-use borrow.Author.Rules.{rules}
 use Rattle.report.proofs.Parts.{tonnes-put, tonnes-room}
 use Rattle.report.proofs.put.put_tonnes.Goals as goal
 
@@ -13,4 +12,6 @@ returns c =
     tonnes-put _ _ _ _ _ c.requires c.ranges.value (rw (to_z-of_z c.ranges.value) at c.write_tonnage-written.ensures) _ c.in-Count.is
 
 pub overflow_add-result : goal.overflow_add-result
-overflow_add-result c = omega (arith, (returns-2 c).0)
+overflow_add-result c =
+    let p = tonnes-put _ _ _ _ _ c.requires c.ranges.value (rw (to_z-of_z c.ranges.value) at c.write_tonnage-written.ensures) _ c.in-Count.is in
+    omega (arith, p.0)

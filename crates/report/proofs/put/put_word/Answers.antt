@@ -1,13 +1,10 @@
-use Prim.Native.Nat.{◌+◌, ◌-◌, ◌≤◌}
 use mathlib.Core.List.{[]}
-use mathlib.Core.Path.{◌≡◌, refl, sym}
+use mathlib.Core.Path.{refl, sym}
 use native.Mathlib.Omega.{arith}
-use lib.ListN.{length, take}
 use borrow.Author.Rules.{rules}
 use Rattle.lists.specs.Ascii.{ascii}
-use Rattle.report.specs.Put.{Put}
 use Rattle.report.proofs.Puts.{none, more, put_as}
-use Rattle.report.proofs.Parts.{Spells, table_spells, spelt-all, no_word}
+use Rattle.report.proofs.Parts.{table_spells, spelt-all, no_word}
 use Rattle.report.proofs.put.put_word.Goals as goal
 
 pub returns-then-row-ge4 : goal.returns-then-row-ge4

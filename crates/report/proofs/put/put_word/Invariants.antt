@@ -1,13 +1,8 @@
 use Prim.Native.Nat.{◌+◌, ◌-◌, ◌≤◌}
-use mathlib.Core.List.{[]}
-use mathlib.Core.Path.{◌≡◌, refl, sym}
-use native.Mathlib.Omega.{arith}
+use mathlib.Core.Path.{◌≡◌}
 use lib.ListN.{length, take}
-use borrow.Author.Rules.{rules}
-use Rattle.lists.specs.Ascii.{ascii}
 use Rattle.report.specs.Put.{Put}
-use Rattle.report.proofs.Puts.{none, more, put_as}
-use Rattle.report.proofs.Parts.{Spells, table_spells, spelt-all, no_word}
+use Rattle.report.proofs.Parts.{Spells}
 use Rattle.report.proofs.put.put_word.Given as goal
 
 -- `put_word`: the letters of the verdict's row.

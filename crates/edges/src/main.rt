@@ -99,7 +99,13 @@ fn run_all(rt: &impl Print, input: &[u8]) {
     let at = run_service(rt, input, at, services::COMMIT, b"commit: ");
     let at = run_service(rt, input, at, services::READ_TONNAGE, b"read tonnage: ");
     let at = run_service(rt, input, at, services::WRITE_TONNAGE, b"write tonnage: ");
-    let at = run_service(rt, input, at, services::PLAN_AND_COMMIT, b"plan and commit: ");
+    let at = run_service(
+        rt,
+        input,
+        at,
+        services::PLAN_AND_COMMIT,
+        b"plan and commit: ",
+    );
     if at != input.len() {
         write(rt, b"the input does not end there\n");
     }

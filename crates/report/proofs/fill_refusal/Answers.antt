@@ -1,3 +1,4 @@
+use native.Mathlib.Omega.{arith}
 use Rattle.report.proofs.Texts.{refused-not, refused-put}
 use Rattle.report.proofs.fill_refusal.Goals as goal
 
@@ -5,11 +6,11 @@ use Rattle.report.proofs.fill_refusal.Goals as goal
 pub returns-then-out-lt-REFUSAL_ROOM : goal.returns-then-out-lt-REFUSAL_ROOM
 returns-then-out-lt-REFUSAL_ROOM c =
     let a = c.args in
-    let n = refused-not a.out.now a.number a.place c.if-out-lt-REFUSAL_ROOM.true in
+    let n = refused-not a.out.now a.number a.place (omega arith) in
     record { value = n.0; out_after = n.1 }
 
 pub returns : goal.returns
 returns c =
     let a = c.args in
-    let n = refused-put a.out.now a.number a.place _ _ c.if-out-lt-REFUSAL_ROOM.false c.put_refusal.ensures in
+    let n = refused-put a.out.now a.number a.place _ _ (omega arith) c.put_refusal.ensures in
     record { value = n.0; out_after = n.1 }

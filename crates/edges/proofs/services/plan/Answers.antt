@@ -1,4 +1,4 @@
-use Rattle.std.proofs.Common.{sym, length-take-le, rules}
+use Rattle.std.proofs.Common.{sym, length-take-le}
 use Rattle.edges.proofs.services.plan.Goals as goal
 
 pub slice_bounds-plan_batch-end : goal.slice_bounds-plan_batch-end

@@ -1,4 +1,4 @@
-use Rattle.std.proofs.Common.{sym, length-take-le, rules}
+use Rattle.std.proofs.Common.{sym, length-take-le}
 use Rattle.edges.proofs.services.plan_and_commit.Goals as goal
 
 pub slice_bounds-joined-end-2 : goal.slice_bounds-joined-end-2

@@ -4,7 +4,7 @@ use refusals::{Answer, Refusal};
 use tonnage::Reading;
 
 // A refusal's number and place, or number 0 with the count or the figure that is given.
-#[derive(Drop)]
+#[derive(Clone, Copy)]
 pub struct Given {
     pub number: u32,
     pub place: u32,

@@ -53,9 +53,9 @@ module _ (r w ticket : ℕ) (f g : ℕ → List ℕ) where
   pub length_front : length front ≡ 8
   length_front = simp length-le
 
-  module _ (Each-read : (i : ℕ) → length (f i) ≡ 8) (each_write : (i : ℕ) → length (g i) ≡ 12) where
+  module _ (each_read : (i : ℕ) → length (f i) ≡ 8) (each_write : (i : ℕ) → length (g i) ≡ 12) where
     pub length_two : length up_to_writes ≡ 8 + 8 * r
-    length_two = length-append front _ ∙ omega (arith, length_front, length-flat 8 f Each-read r)
+    length_two = length-append front _ ∙ omega (arith, length_front, length-flat 8 f each_read r)
 
     pub length_three : length up_to_spare ≡ 8 + size r w
     length_three = length-append up_to_writes _ ∙ omega (arith, length_two, length-flat 12 g each_write w)

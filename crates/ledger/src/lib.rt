@@ -40,7 +40,7 @@ pub struct Stamp {
 }
 
 // A transaction: `r` reads and `w` writes; entries beyond these count for nothing.
-#[derive(Drop)]
+#[derive(Clone, Copy)]
 pub struct Transaction {
     pub ticket: u32,
     pub r: usize,
@@ -50,14 +50,14 @@ pub struct Transaction {
 }
 
 // What checking a page finds: its counts of reads and writes, or its first fault.
-#[derive(Drop)]
+#[derive(Clone, Copy)]
 pub enum PageCheck {
     Good { reads: u32, writes: u32 },
     Bad { refusal: Refusal },
 }
 
 // What reading a page finds: the check, and the transaction where the page is good.
-#[derive(Drop)]
+#[derive(Clone, Copy)]
 pub struct PageRead {
     pub check: PageCheck,
     pub transaction: Transaction,

@@ -6,21 +6,21 @@ ghost use Rattle.refusals.specs.Outcome.{refuses, outcome};
 ghost use Rattle.refusals.specs.Fault.{fault, finding};
 
 // "Any refusal returns its number and a place."
-#[derive(Drop)]
+#[derive(Clone, Copy)]
 pub struct Refusal {
     pub number: u32,
     pub place: u32,
 }
 
 // What a service answers: a count, 0 where it has none to give, or a refusal.
-#[derive(Drop)]
+#[derive(Clone, Copy)]
 pub enum Answer {
     Count { count: usize },
     Refused { refusal: Refusal },
 }
 
 // What tests in turn find: nothing, or the first refusal.
-#[derive(Drop)]
+#[derive(Clone, Copy)]
 pub enum Finding {
     Clear,
     Found { refusal: Refusal },

@@ -3,7 +3,7 @@ ghost use Rattle.std.specs.Prelude.{◌≡◌, true, false, ◌≤◌, ◌<◌, 
 ghost use Rattle.tonnage.specs.Text.{signed, below0, tonnes, rest};
 
 // The sign, the whole tonnes, and the kilograms beyond them: 0 to 999.
-#[derive(Drop)]
+#[derive(Clone, Copy)]
 pub struct Parts {
     pub minus: bool,
     pub tonnes: u64,

@@ -4,7 +4,7 @@
 use refusals::Refusal;
 
 // What reading a text finds.
-#[derive(Drop)]
+#[derive(Clone, Copy)]
 pub enum Reading {
     Kilograms { value: i64 },
     Unread { refusal: Refusal },

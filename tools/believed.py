@@ -20,7 +20,7 @@ BELIEVED = {
     "claims/Programs claims/Cases claims/Shown claims/Letter",
 }
 INNER = {
-    "inner: what only contracts between functions say": "octets/Columns ledger/Inner ledger/Good orders/Walk sets/Set "
+    "inner: what only contracts between functions say": "octets/Columns ledger/Inner ledger/Listed ledger/Good orders/Walk sets/Set "
     "planner/Ranks report/Put",
 }
 

@@ -5,7 +5,7 @@
 
 An edit has the form of one in must-fail/ (file:, old:, new:) and one line more:
 
-    by: page/check/first_key loop-i-preserved
+    by: page/entries/Entries/first_key loop-i-preserved
 
 the first fact that fails: a function, by its folder below the crate's proofs/, and a goal of it, or a lemma beside its
 answers. It is the same fact whether an answer is refused or the goal has none and is left over. A lemma of a file of

@@ -11,22 +11,20 @@ use lib.Dec.{T}
 use Rattle.lists.specs.Tables.{flat, tab}
 use Rattle.lists.specs.Ascii.{ascii}
 use Rattle.refusals.specs.declared.Refusal.{Refusal}
-use Rattle.refusals.specs.declared.Answer.{Answer}
-use Rattle.refusals.specs.declared.Answer.TheVariants.{Count, Refused}
-use Rattle.refusals.specs.Outcome.{Outcome, gives, refuses, outcome}
+use Rattle.std.specs.Prelude.{Result, Ok, Err}
+use Rattle.refusals.specs.Outcome.{Outcome, gives, refuses, number_of, outcome}
 use Rattle.refusals.specs.Fault.{first, rows_from, moved}
 use Rattle.refusals.proofs.Answers.{apart, value}
-use Rattle.tonnage.specs.declared.Reading.TheVariants.{Unread}
 use Rattle.tonnage.specs.Text.{digits, width_in, width, text_of}
-use Rattle.tonnage.specs.Services.{read, write_text}
+use Rattle.tonnage.specs.Services.{write_text}
 use Rattle.tonnage.specs.Services.{WrittenText, text_rows}
 use Rattle.octets.specs.Bytes.{weighed, le, field}
 use Rattle.lists.specs.Search.{seek, first_in}
-use Rattle.ledger.specs.declared.PageCheck.TheVariants.{Bad}
 use Rattle.ledger.specs.Version.{at}
 use Rattle.ledger.specs.Tx.{Tx, floor_of}
 use Rattle.ledger.specs.Page.{count_rows, entry_rows, head_rows, whole_rows, page_tx, page_of, body_of}
-use Rattle.ledger.specs.Services.{Taken, checked, WrittenPage}
+use Rattle.ledger.specs.Services.{Taken, taken, WrittenPage, wrote_page}
+use Rattle.ledger.specs.declared.Transaction.{Transaction}
 use Rattle.ledger.specs.declared.Entry.{Entry}
 use Rattle.ledger.specs.State.{State, entry, store, state_rows}
 use Rattle.ledger.specs.Gate.{pages, tx_at, txs, front_rows, pages_rows, gate_rows}
@@ -50,7 +48,7 @@ module _ {In Out Said A : Type 0} {fits : In → Bool} {said : Out → Said} {pr
 
   no_refusal :
       (a : A) (r : Refusal) → answer (promise x) ≡ gives a →
-      answer (said (p.does x)) ≡ refuses r.number r.place → ⊥
+      answer (said (p.does x)) ≡ refuses (number_of r.reason) r.place → ⊥
   no_refusal a r e f = apart (answers (gives a) e) f
 
 -- ---- the inputs
@@ -137,42 +135,42 @@ pair_first = refl
 
 -- ---- "a service that refuses all": none of the seven can
 
-pub reads_no_page : (p : PageReader) → ((x : List ℕ) → T (bytes x) → (r : Refusal) × ((p.does x).check ≡ Bad r)) → ⊥
+pub reads_no_page : (p : PageReader) → ((x : List ℕ) → T (bytes x) → (r : Refusal) × (p.does x ≡ Err r)) → ⊥
 reads_no_page p f =
     let w = f bytes7 tt in
     no_refusal p (λ (k : Taken). k.answer) bytes7 tt _ w.0
-    (ap (λ (k : Taken). k.answer) (table.page-ticket7).1) (ap checked w.1)
+    (ap (λ (k : Taken). k.answer) (table.page-ticket7).1) (ap (λ (y : Result Transaction Refusal). (taken y).answer) w.1)
 
 pub writes_no_page :
-    (p : PageWriter) → ((x : PageLent) → T (page_fits x) → (r : Refusal) × ((p.does x).answer ≡ Refused r)) → ⊥
+    (p : PageWriter) → ((x : PageLent) → T (page_fits x) → (r : Refusal) × ((p.does x).answer ≡ Err r)) → ⊥
 writes_no_page p f =
     let w = f wide wide_fits in
-    no_refusal p (λ (k : WrittenPage). k.answer) wide wide_fits 0 w.0 table.room_25 (ap outcome w.1)
+    no_refusal p (λ (k : WrittenPage). k.answer) wide wide_fits 0 w.0 table.room_25 (ap (λ a. (wrote_page a (p.does wide).batch).answer) w.1)
 
-pub plans_none : (p : Planner) → ((x : PlanLent) → T (plan_fits x) → (r : Refusal) × ((p.does x).answer ≡ Refused r)) → ⊥
+pub plans_none : (p : Planner) → ((x : PlanLent) → T (plan_fits x) → (r : Refusal) × ((p.does x).answer ≡ Err r)) → ⊥
 plans_none p f =
     let w = f (plan_on crossing) clash_fits in
     no_refusal p (λ (k : Plans). k.answer) (plan_on crossing) clash_fits 1 w.0 (table.plan_clash).0 (ap outcome w.1)
 
 pub commits_none :
-    (p : Committer) → ((x : CommitLent) → T (commit_fits x) → (r : Refusal) × ((p.does x).answer ≡ Refused r)) → ⊥
+    (p : Committer) → ((x : CommitLent) → T (commit_fits x) → (r : Refusal) × ((p.does x).answer ≡ Err r)) → ⊥
 commits_none p f =
     let w = f (commit_on failing) failing_fits in
     no_refusal p (λ (k : Commits). k.answer) (commit_on failing) failing_fits 1 w.0
     (table.commit-failing).0 (ap outcome w.1)
 
-pub joins_none : (p : JoinedCall) → ((x : JoinedLent) → T (joined_fits x) → (r : Refusal) × ((p.does x).answer ≡ Refused r)) → ⊥
+pub joins_none : (p : JoinedCall) → ((x : JoinedLent) → T (joined_fits x) → (r : Refusal) × ((p.does x).answer ≡ Err r)) → ⊥
 joins_none p f =
     let w = f (joined_on crossing) joined_fits_lem in
     no_refusal p (λ (k : Joined). k.answer) (joined_on crossing) joined_fits_lem 1 w.0 (table.joined_clash).0 (ap outcome w.1)
 
-pub reads_no_text : (p : TextReader) → ((x : List ℕ) → T (bytes x) → (r : Refusal) × (p.does x ≡ Unread r)) → ⊥
+pub reads_no_text : (p : TextReader) → ((x : List ℕ) → T (bytes x) → (r : Refusal) × (p.does x ≡ Err r)) → ⊥
 reads_no_text p f =
     let w = f (ascii "68,400") text_fits_lem in
-    no_refusal p (λ o. o) (ascii "68,400") text_fits_lem _ w.0 table.text_plain (ap read w.1)
+    no_refusal p (λ o. o) (ascii "68,400") text_fits_lem _ w.0 table.text_plain (ap outcome w.1)
 
 pub writes_no_text :
-    (p : TextWriter) → ((x : TextLent) → T (text_fits x) → (r : Refusal) × ((p.does x).answer ≡ Refused r)) → ⊥
+    (p : TextWriter) → ((x : TextLent) → T (text_fits x) → (r : Refusal) × ((p.does x).answer ≡ Err r)) → ⊥
 writes_no_text p f =
     let w = f figure tt in
     no_refusal p (λ (k : WrittenText). k.answer) figure tt 6 w.0 figure-written (ap outcome w.1)
@@ -180,21 +178,21 @@ writes_no_text p f =
 -- ---- planners
 
 -- a count that is given is the answer
-counted-answer : (a : Answer) (k : ℕ) → outcome a ≡ gives k → a ≡ Count k
-counted-answer (Count j) k e = ap Count (value refl e)
-counted-answer (Refused r) k e = absurd (apart e refl)
+counted-answer : (a : Result ℕ Refusal) (k : ℕ) → outcome a ≡ gives k → a ≡ Ok k
+counted-answer (Ok j) k e = ap Ok (value refl e)
+counted-answer (Err r) k e = absurd (apart e refl)
 
 module _ (p : Planner) where
   -- it answers with the count that the promise gives
   plan-counts :
       (x : PlanLent) (t : T (plan_fits x)) (k : ℕ) →
       (plan_batch x.batch x.state x.number x.verdicts x.order x.out).answer ≡ gives k →
-      (p.does x).answer ≡ Count k
+      (p.does x).answer ≡ Ok k
   plan-counts x t k e = counted-answer (p.does x).answer k (answers p (λ (y : Plans). y.answer) x t (gives k) e)
 
   -- "a planner that .. gives one verdict to every batch": one to all pages of each batch that it does not refuse
   pub plans-one-verdict :
-      ((x : PlanLent) → T (plan_fits x) → (k : ℕ) → (p.does x).answer ≡ Count k →
+      ((x : PlanLent) → T (plan_fits x) → (k : ℕ) → (p.does x).answer ≡ Ok k →
       (v : ℕ) × ((i : ℕ) → i < pages x.batch → verdict_at (p.does x).verdicts i ≡ v)) → ⊥
   plans-one-verdict f =
       let x = plan_on crossing in
@@ -207,13 +205,13 @@ module _ (p : Planner) where
 
   -- "a planner that calls all stale"
   pub plans-all-stale :
-      ((x : PlanLent) → T (plan_fits x) → (k : ℕ) → (p.does x).answer ≡ Count k →
+      ((x : PlanLent) → T (plan_fits x) → (k : ℕ) → (p.does x).answer ≡ Ok k →
       (i : ℕ) → i < pages x.batch → verdict_at (p.does x).verdicts i ≡ 1) → ⊥
   plans-all-stale f = plans-one-verdict (λ x t k e. (1, f x t k e))
 
   -- k is "the kept count", the number of verdicts 0, on every batch that is not refused
   pub plans-true-count :
-      (x : PlanLent) → T (plan_fits x) → (k : ℕ) → (p.does x).answer ≡ Count k →
+      (x : PlanLent) → T (plan_fits x) → (k : ℕ) → (p.does x).answer ≡ Ok k →
       k ≡ length (zeros x.batch (p.does x).verdicts)
   plans-true-count x t k e =
       let m = p.meets x t in
@@ -223,14 +221,14 @@ module _ (p : Planner) where
 
   -- "a made-up kept count": m; one more than the kept; the same for every batch
   pub plans-count-pages :
-      ((x : PlanLent) → T (plan_fits x) → (k : ℕ) → (p.does x).answer ≡ Count k → k ≡ pages x.batch) → ⊥
+      ((x : PlanLent) → T (plan_fits x) → (k : ℕ) → (p.does x).answer ≡ Ok k → k ≡ pages x.batch) → ⊥
   plans-count-pages f =
       let e : 1 ≡ pages (batch_of crossing) =
       f (plan_on crossing) clash_fits 1 (plan-counts (plan_on crossing) clash_fits 1 (table.plan_clash).0) in
       omega (arith, clash_pages)
 
   pub plans-count-more :
-      ((x : PlanLent) → T (plan_fits x) → (k : ℕ) → (p.does x).answer ≡ Count k →
+      ((x : PlanLent) → T (plan_fits x) → (k : ℕ) → (p.does x).answer ≡ Ok k →
       k ≡ suc (length (zeros x.batch (p.does x).verdicts))) → ⊥
   plans-count-more f =
       let a = plan-counts (plan_on crossing) clash_fits 1 (table.plan_clash).0 in
@@ -239,7 +237,7 @@ module _ (p : Planner) where
       omega arith
 
   pub plans-one-count :
-      (c : ℕ) → ((x : PlanLent) → T (plan_fits x) → (k : ℕ) → (p.does x).answer ≡ Count k → k ≡ c) → ⊥
+      (c : ℕ) → ((x : PlanLent) → T (plan_fits x) → (k : ℕ) → (p.does x).answer ≡ Ok k → k ≡ c) → ⊥
   plans-one-count c f =
       let one : 1 ≡ c = f (plan_on crossing) clash_fits 1 (plan-counts (plan_on crossing) clash_fits 1 (table.plan_clash).0) in
       let two : 2 ≡ c = f (plan_on reader_first) reader_fits 2 (plan-counts (plan_on reader_first) reader_fits 2 (table.plan-reader).0) in
@@ -250,7 +248,7 @@ module _ (p : Planner) where
 module _ (p : Committer) where
   commit-counts :
       (x : CommitLent) (t : T (commit_fits x)) (k : ℕ) →
-      (commit_batch x.batch x.state x.number x.verdicts).answer ≡ gives k → (p.does x).answer ≡ Count k
+      (commit_batch x.batch x.state x.number x.verdicts).answer ≡ gives k → (p.does x).answer ≡ Ok k
   commit-counts x t k e = counted-answer (p.does x).answer k (answers p (λ (y : Commits). y.answer) x t (gives k) e)
 
   -- the entry that it leaves at a key
@@ -261,7 +259,7 @@ module _ (p : Committer) where
 
   -- "a commit that leaves the state" of each batch that it does not refuse
   pub commits_idle :
-      ((x : CommitLent) → T (commit_fits x) → (k : ℕ) → (p.does x).answer ≡ Count k → (p.does x).state ≡ x.state) → ⊥
+      ((x : CommitLent) → T (commit_fits x) → (k : ℕ) → (p.does x).answer ≡ Ok k → (p.does x).state ≡ x.state) → ⊥
   unfolding entry
   commits_idle f =
       let x = commit_on failing in
@@ -274,7 +272,7 @@ module _ (p : Committer) where
   -- "a commit that applies page 0 and only marks the others as passed": on each batch whose pages all pass, so that each
   -- mark is right, the state is that after the writes of page 0
   pub commits-first :
-      ((x : CommitLent) → T (commit_fits x) → (p.does x).answer ≡ Count (pages x.batch) →
+      ((x : CommitLent) → T (commit_fits x) → (p.does x).answer ≡ Ok (pages x.batch) →
       (p.does x).state ≡ write (stamp x.number 0) x.state (tx_at x.batch 0).writes) → ⊥
   commits-first f =
       let x = commit_on pair in
@@ -290,7 +288,7 @@ module _ (p : Committer) where
 -- a joined call that plans and leaves the state of each batch that it does not refuse
 pub joins_idle :
     (p : JoinedCall) →
-    ((x : JoinedLent) → T (joined_fits x) → (k : ℕ) → (p.does x).answer ≡ Count k → (p.does x).state ≡ x.state) → ⊥
+    ((x : JoinedLent) → T (joined_fits x) → (k : ℕ) → (p.does x).answer ≡ Ok k → (p.does x).state ≡ x.state) → ⊥
 unfolding entry
 joins_idle p f =
     let x = joined_on crossing in

@@ -19,7 +19,8 @@ use Rattle.tonnage.specs.Services.{in64, read_text, write_text}
 use Rattle.tonnage.specs.Services.{text_rows}
 use Rattle.tonnage.proofs.RoundTrip.{longest}
 use Rattle.ledger.specs.declared.Transaction.{Transaction}
-use Rattle.ledger.specs.Services.{Counts, read_page, write_fault, write_page}
+use Rattle.ledger.specs.declared.Counts.{Counts}
+use Rattle.ledger.specs.Services.{read_page, write_fault, write_page}
 use Rattle.ledger.specs.State.{State}
 use Rattle.ledger.specs.Gate.{pages, tx_at, txs}
 use Rattle.ledger.specs.Commit.{verdicts, passed, commit_rows, commit_batch}

@@ -15,7 +15,8 @@ use Rattle.ledger.specs.declared.Transaction.{Transaction}
 use Rattle.octets.specs.Bytes.{Small, weighed}
 use Rattle.ledger.specs.Tx.{Tx, no_read, no_write, value_tx, padded, TransactionFits}
 use Rattle.ledger.specs.Page.{count_rows, entry_rows, page_tx, page_of, page_fault, page_at, with_page}
-use Rattle.ledger.specs.Services.{Counts, Taken, read_page, WrittenPage, index_row, write_rows, write_fault, write_page}
+use Rattle.ledger.specs.declared.Counts.{Counts}
+use Rattle.ledger.specs.Services.{Taken, read_page, WrittenPage, index_row, write_rows, write_fault, write_page}
 use Rattle.lists.specs.Search.{seek, first_in}
 use Rattle.ledger.proofs.Back.{page_back, good_back, long_page}
 use Rattle.ledger.proofs.Exact.{page_exact}
@@ -37,9 +38,8 @@ unfolding read_page
 taken-good p c e = faults.taken_none p c (sym e)
 
 good-taken : (p : List ℕ) → page_fault p ≡ clear → read_page p ≡ record { answer = gives (counts (page_tx p)); transaction = padded (page_tx p) }
-good-taken p e =
-    sym (faults.read_taken p e)
-    ∙ ap (λ (o : Outcome Counts). record { answer = o; transaction = padded (page_tx p) }) (sym (faults.check-taken p _ _ refl refl e))
+unfolding padded
+good-taken p e = sym (faults.read_taken p e)
 
 -- the page without reads and writes holds none
 empty_back :

@@ -45,11 +45,11 @@ There s k = is_absent (entry s k).version ≡ false
 
 module _ (n i : ℕ) (h : i ≤ 63) where
   -- one write
-  stored_there : (s : State) (w : Write) → Level s.blocks s.places s.values → w.key < keys s → There (store s w.key (left (stamp n i) w)) w.key
+  stored_there : (s : State) (w : Write) → Level s → w.key < keys s → There (store s w.key (left (stamp n i) w)) w.key
   stored_there s w z l = rw (entry-same s w.key (left (stamp n i) w) z l) (left-not-absent n i w h)
 
   still_there :
-      (s : State) (w : Write) (k : ℕ) → Level s.blocks s.places s.values → w.key < keys s →
+      (s : State) (w : Write) (k : ℕ) → Level s → w.key < keys s →
       There s k → There (store s w.key (left (stamp n i) w)) k
   still_there s w k z l e =
       ⊎_elim
@@ -59,7 +59,7 @@ module _ (n i : ℕ) (h : i ≤ 63) where
 
   -- writes in turn, below the count of keys
   pub write_there :
-      (s : State) (ws : List Write) (k : ℕ) → Level s.blocks s.places s.values → ((w : Write) → w ∈ ws → w.key < keys s) →
+      (s : State) (ws : List Write) (k : ℕ) → Level s → ((w : Write) → w ∈ ws → w.key < keys s) →
       There s k → There (write (stamp n i) s ws) k
   unfolding write
   write_there s [] k z f e = e
@@ -144,7 +144,7 @@ module _ (batch : List ℕ) (s : State) (n : ℕ) where
     pub passes-stands : (i : ℕ) → i < pages batch → passes (versions (at i)) (tx_at batch i) ≡ true → verdict_at (commit_batch batch s n vs).verdicts i ≡ 0
     passes-stands i h e = verdict_is i 3 h ∙ rw e
 
-    level : (j : ℕ) → Level (at j).blocks (at j).places (at j).values
+    level : (j : ℕ) → Level (at j)
     level j = kept_level s (at j) (reached-kept j) taken_through.level
 
     below : (j : ℕ) → j < pages batch → (w : Write) → w ∈ (tx_at batch j).writes → w.key < keys (at j)

@@ -33,7 +33,7 @@ use Rattle.planning.proofs.Passing.{write-other, Agree, Passing, passing, passin
 
 -- ---- what stands at a key after a write
 
-pub entry-same : (s : State) (k : ℕ) (e : Entry) → Level s.blocks s.places s.values → k < keys s → entry (store s k e) k ≡ e
+pub entry-same : (s : State) (k : ℕ) (e : Entry) → Level s → k < keys s → entry (store s k e) k ≡ e
 unfolding entry store
 entry-same s k e z h = λ i. record {
   version = record {
@@ -57,7 +57,7 @@ none_later v ws r w m e =
     omega (arith, ap (λ (x : Write). x.key) at.2)
 
 pub write-last :
-    (st : Stamp) (s : State) (ws : List Write) (w : Write) → Level s.blocks s.places s.values → w ∈ ws → Rise ws → w.key < keys s →
+    (st : Stamp) (s : State) (ws : List Write) (w : Write) → Level s → w ∈ ws → Rise ws → w.key < keys s →
     entry (write st s ws) w.key ≡ left st w
 unfolding write
 write-last st s [] w z x4 r h = elim x4 [ ]
@@ -149,7 +149,7 @@ module _ (b : ℕ → Tx) where
 
   run-last :
       (n p : ℕ) (s : State) (xs : List ℕ) (i : ℕ) (ys : List ℕ) (w : Write) →
-      Level s.blocks s.places s.values → w ∈ (b i).writes → Rise (b i).writes → w.key < keys s →
+      Level s → w ∈ (b i).writes → Rise (b i).writes → w.key < keys s →
       ((u : ℕ) → u ∈ ys → T (not (writer (b u) w.key))) →
       entry (run b n p (on_pages b) s (xs ++ i ∷ ys)) w.key ≡ left (stamp n (p + length xs)) w
   unfolding run
@@ -164,7 +164,7 @@ module _ (b : ℕ → Tx) where
     -- "each key ends as its last writer in that order leaves it"
     pub ends_last :
         (xs : List ℕ) (i : ℕ) (ys : List ℕ) (w : Write) → os ≡ xs ++ i ∷ ys →
-        Level s.blocks s.places s.values → w ∈ (b i).writes → Rise (b i).writes → w.key < keys s →
+        Level s → w ∈ (b i).writes → Rise (b i).writes → w.key < keys s →
         ((u : ℕ) → u ∈ ys → T (not (writer (b u) w.key))) →
         entry (run b n 0 rule s os) w.key ≡ left (stamp n (length xs)) w
     ends_last xs i ys w e l m r h f = rw (run-pages n s rule 0 s os z, e) (run-last n 0 s xs i ys w l m r h f ∙ ap (λ p. left (stamp n p) w) (omega arith))

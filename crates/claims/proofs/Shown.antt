@@ -21,7 +21,8 @@ use Rattle.planning.specs.Plan.{Plans, sequence, plans, plan_rows, plan_batch}
 use Rattle.planning.proofs.Few.{plan-room}
 use Rattle.report.specs.Listing.{listing, refusal, together, listed, refused}
 use Rattle.report.specs.Program.{start_number, start, done, shown, told}
-use Rattle.report.specs.declared.program.Input.TheVariants.{Bytes, TooLong, Unread}
+use Rattle.std.specs.Prelude.{Ok, Err}
+use Rattle.report.specs.declared.program.InputError.TheVariants.{TooLong, Failed}
 use Rattle.claims.specs.Serial.{run}
 use Rattle.claims.specs.Shown.{plan, state_after, Whole}
 use Rattle.refusals.proofs.Answers.{value}
@@ -43,7 +44,7 @@ batch-kept batch s n vs = go (rowsFirst (commit_rows batch s n vs))
     go (fault a b) = kept_self s
 
 -- lists of one length, 1 to 1024, stay so
-good_lengths : (s t : State) → Kept s t → Level s.blocks s.places s.values → 0 < keys s → keys s ≤ 1024 → wrong_lengths t ≡ false
+good_lengths : (s t : State) → Kept s t → Level s → 0 < keys s → keys s ≤ 1024 → wrong_lengths t ≡ false
 good_lengths s t k l h j =
     rw (
       eq-eqb (length t.blocks) (length t.places) (omega (arith, k.blocks, k.places, l.places)),
@@ -182,9 +183,9 @@ shown-all input = (
 -- And for whatever is read: the bytes are listed or refused so, "input beyond 32768 bytes gives 11", a read that failed gives nothing.
 pub told-all :
     (page : List ℕ) →
-    ((n : ℕ) → Whole (take n page) (told (Bytes n) page start (replicate 65536 0)))
-    × (told TooLong page start (replicate 65536 0) ≡ refusal 11 0)
-    × (told Unread page start (replicate 65536 0) ≡ [])
+    ((n : ℕ) → Whole (take n page) (told (Ok n) page start (replicate 65536 0)))
+    × (told (Err TooLong) page start (replicate 65536 0) ≡ refusal 11 0)
+    × (told (Err Failed) page start (replicate 65536 0) ≡ [])
 told-all page = (λ n. shown-all (take n page), line (replicate 65536 0) 11 0 (long 65536 0), refl)
 
 -- where the gate lets the input through: what plan leaves, and the state after the writes of the kept pages

@@ -1,13 +1,12 @@
 -- Document 01, 'What the contracts have to pin': any program that meets the promise of a service. Assumes nothing.
-use Rattle.std.specs.Prelude.{ℕ, ◌^◌, Bool, ◌&&◌, List, ◌≡◌, length, ℤ, T, eqb, ltb}
+use Rattle.std.specs.Prelude.{ℕ, ◌^◌, Bool, ◌&&◌, List, ◌≡◌, length, ℤ, T, eqb, ltb, Result}
 use Rattle.lists.specs.Members.{all}
-use Rattle.refusals.specs.declared.Answer.{Answer}
-use Rattle.tonnage.specs.declared.Reading.{Reading}
-use Rattle.tonnage.specs.Services.{in64, read, read_text, wrote, write_text}
+use Rattle.refusals.specs.declared.Refusal.{Refusal}
+use Rattle.refusals.specs.Outcome.{outcome}
+use Rattle.tonnage.specs.Services.{in64, read_text, wrote, write_text}
 use Rattle.ledger.specs.declared.Read.{Read}
 use Rattle.ledger.specs.declared.Write.{Write}
 use Rattle.ledger.specs.declared.Transaction.{Transaction}
-use Rattle.ledger.specs.declared.PageRead.{PageRead}
 use Rattle.ledger.specs.Services.{taken, read_page, wrote_page, write_page}
 use Rattle.ledger.specs.State.{State}
 use Rattle.ledger.specs.Commit.{committed, commit_batch}
@@ -61,7 +60,7 @@ pub record PageLent : Type 0 where
   pub transaction : Transaction
 
 pub record PageDone : Type 0 where
-  pub answer : Answer
+  pub answer : Result Unit Refusal
   pub batch : List ℕ
 
 pub record PlanLent : Type 0 where
@@ -73,7 +72,7 @@ pub record PlanLent : Type 0 where
   pub out : List ℕ
 
 pub record PlanDone : Type 0 where
-  pub answer : Answer
+  pub answer : Result ℕ Refusal
   pub verdicts : List ℕ
   pub order : List ℕ
   pub out : List ℕ
@@ -85,7 +84,7 @@ pub record CommitLent : Type 0 where
   pub verdicts : List ℕ
 
 pub record CommitDone : Type 0 where
-  pub answer : Answer
+  pub answer : Result ℕ Refusal
   pub state : State
   pub verdicts : List ℕ
 
@@ -97,7 +96,7 @@ pub record JoinedLent : Type 0 where
   pub order : List ℕ
 
 pub record JoinedDone : Type 0 where
-  pub answer : Answer
+  pub answer : Result ℕ Refusal
   pub state : State
   pub verdicts : List ℕ
   pub order : List ℕ
@@ -107,7 +106,7 @@ pub record TextLent : Type 0 where
   pub figure : ℤ
 
 pub record TextDone : Type 0 where
-  pub answer : Answer
+  pub answer : Result ℕ Refusal
   pub buffer : List ℕ
 
 abbrev pub page_fits : PageLent → Bool
@@ -140,7 +139,7 @@ text_fits x = bytes x.buffer && in64 x.figure
 -- document 02's "One service shall plan and commit"
 
 abbrev pub PageReader : Type 0
-PageReader = Program {Out = PageRead} bytes taken read_page
+PageReader = Program {Out = Result Transaction Refusal} bytes taken read_page
 
 abbrev pub PageWriter : Type 0
 PageWriter =
@@ -167,7 +166,7 @@ JoinedCall =
     (λ x. plan_and_commit x.batch x.state x.number x.verdicts x.order)
 
 abbrev pub TextReader : Type 0
-TextReader = Program {Out = Reading} bytes read read_text
+TextReader = Program {Out = Result ℤ Refusal} bytes outcome read_text
 
 abbrev pub TextWriter : Type 0
 TextWriter =

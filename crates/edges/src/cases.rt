@@ -4,92 +4,148 @@
 // lent and the one that must be given, the sentence, those bytes, the state, and last what must be left in each list that is
 // lent for writing: the buffer of a page or a text; verdicts, order and out batch of a plan; verdicts and state of a commit;
 // verdicts, order and state of the joined call.
-ghost use Rattle.std.specs.Prelude.{◌≤◌};
-
 use crate::given::Given;
-use crate::numbers;
+use crate::readers::{FromCase, Reader};
+use ledger::Transaction;
 
-// Where the numbers stand.
-pub const ASKED: usize = 0;
-
-const COUNT: usize = 8;
-
-const FIGURE: usize = 16;
-
-const NUMBER: usize = 24;
-
-const PLACE: usize = 28;
-
-pub const BUFFER: usize = 32;
-
-pub const VERDICTS: usize = 32;
-
-pub const ORDER: usize = 36;
-
-pub const OUT: usize = 40;
-
-pub const BLOCKS: usize = 44;
-
-pub const PLACES: usize = 48;
-
-pub const VALUES: usize = 52;
-
-const SENTENCE_END: usize = 56;
-
-pub const BYTES_END: usize = 60;
-
-pub const BLOCKS_END: usize = 64;
-
-pub const PLACES_END: usize = 68;
-
-pub const VALUES_END: usize = 72;
-
-// Where the transactions and the sentence stand.
-pub const LENT: usize = 76;
-
-pub const DUE: usize = 736;
-
+// Where the sentence stands.
 const SENTENCE: usize = 1396;
 
-// A place that stands among the numbers.
-pub fn end(case: &[u8], slot: usize) -> usize {
-    numbers::four(case, slot) as usize
+// The lengths of the lists that are lent.
+#[derive(Clone, Copy)]
+pub struct Lengths {
+    // Of the verdicts, or of the buffer of a page or a text.
+    pub verdicts: usize,
+    pub order: usize,
+    pub out: usize,
+    pub blocks: usize,
+    pub places: usize,
+    pub values: usize,
 }
 
-// A length, but no more than there is room for: a case with a longer list comes out wrong.
-pub fn length(case: &[u8], slot: usize, most: usize) -> usize
-    ensures { result ≤ most }
-{
-    let asked = numbers::four(case, slot) as usize;
-    if asked < most { asked } else { most }
-}
-
-// A part of a case; nothing where the case ends before it does.
-fn part(case: &[u8], start: usize, end: usize) -> &[u8] {
-    if end > case.len() {
-        return &case[..0];
+impl FromCase for Lengths {
+    fn from_case(from: &mut Reader<'_>) -> Lengths {
+        Lengths {
+            verdicts: from.number(),
+            order: from.number(),
+            out: from.number(),
+            blocks: from.number(),
+            places: from.number(),
+            values: from.number(),
+        }
     }
-    if start > end {
-        return &case[..0];
+}
+
+// Where the parts of a case end that have no length of their own.
+#[derive(Clone, Copy)]
+struct Ends {
+    sentence: usize,
+    bytes: usize,
+    blocks: usize,
+    places: usize,
+    values: usize,
+}
+
+impl FromCase for Ends {
+    fn from_case(from: &mut Reader<'_>) -> Ends {
+        Ends {
+            sentence: from.number(),
+            bytes: from.number(),
+            blocks: from.number(),
+            places: from.number(),
+            values: from.number(),
+        }
     }
-    &case[start..end]
 }
 
-// The sentence that a case comes from.
-pub fn sentence(case: &[u8]) -> &[u8] {
-    part(case, SENTENCE, end(case, SENTENCE_END))
+impl FromCase for Given {
+    fn from_case(from: &mut Reader<'_>) -> Given {
+        Given {
+            count: from.read(),
+            figure: from.read(),
+            number: from.read(),
+            place: from.read(),
+        }
+    }
 }
 
-// The page, the batch or the text that is lent to be read.
-pub fn bytes(case: &[u8]) -> &[u8] {
-    part(case, end(case, SENTENCE_END), end(case, BYTES_END))
+// A case: what a service is asked with and lent, and what it must give.
+#[derive(Drop)]
+pub struct Case<'a> {
+    whole: &'a [u8],
+    asked: u64,
+    given: Given,
+    pub lengths: Lengths,
+    ends: Ends,
+    pub lent: Transaction,
+    pub due: Transaction,
 }
 
-// Whether just this must be given, and the lists that are left were the same up to the end of the case.
-pub fn is_right(case: &[u8], given: Given, at: usize) -> bool {
-    at == case.len()
-        && given.number == numbers::four(case, NUMBER)
-        && given.place == numbers::four(case, PLACE)
-        && given.count == numbers::eight(case, COUNT) as usize
-        && given.figure == numbers::signed(case, FIGURE)
+impl<'a> Case<'a> {
+    pub fn new(whole: &'a [u8]) -> Case<'a> {
+        let mut from = Reader::new(whole, 0);
+        Case {
+            whole,
+            asked: from.read(),
+            given: from.read(),
+            lengths: from.read(),
+            ends: from.read(),
+            lent: from.read(),
+            due: from.read(),
+        }
+    }
+
+    // A part of the case; nothing where the case ends before it does.
+    fn part(&self, start: usize, end: usize) -> &'a [u8] {
+        self.whole.get(start..end).unwrap_or(&[])
+    }
+
+    // The sentence that the case comes from.
+    pub fn sentence(&self) -> &'a [u8] {
+        self.part(SENTENCE, self.ends.sentence)
+    }
+
+    // The page, the batch or the text that is lent to be read.
+    pub fn bytes(&self) -> &'a [u8] {
+        self.part(self.ends.sentence, self.ends.bytes)
+    }
+
+    // The number of the batch.
+    pub fn number(&self) -> u32 {
+        (self.asked & 0xffff_ffff) as u32
+    }
+
+    // The index of the page.
+    pub fn index(&self) -> usize {
+        self.asked as usize
+    }
+
+    pub fn kilograms(&self) -> i64 {
+        self.asked.cast_signed()
+    }
+
+    // The blocks of the state that is lent, and what follows them in the case, up to a number of them.
+    pub fn blocks<const N: usize>(&self) -> [u32; N] {
+        Reader::new(self.whole, self.ends.bytes).read()
+    }
+
+    // The same for its places.
+    pub fn places<const N: usize>(&self) -> [u16; N] {
+        Reader::new(self.whole, self.ends.blocks).read()
+    }
+
+    // The same for its values.
+    pub fn values<const N: usize>(&self) -> [i64; N] {
+        Reader::new(self.whole, self.ends.places).read()
+    }
+
+    // What must be left in the lists that are lent for writing.
+    pub fn left(&self) -> Reader<'a> {
+        Reader::new(self.whole, self.ends.values)
+    }
+
+    // Whether just this must be given, and the lists that are left were the same up to the end of the case.
+    pub fn is_right(&self, given: Given, left: Reader<'_>) -> bool {
+        left.is_at_end() && given == self.given
+    }
 }

@@ -4,15 +4,12 @@
 
 mod cases;
 mod given;
-mod lent_lists;
-mod numbers;
 mod packed;
+mod readers;
 mod services;
-mod transactions;
 
-ghost use Rattle.std.specs.Prelude.{◌≤◌, length};
-ghost use Rattle.std.specs.Counts.{IsPrefixLen};
-
+use cases::Case;
+use services::{SERVICES, Service};
 use std::io::Read;
 
 // The bytes of a packed case's size, which stands before it; after the last case of a service it is 0.
@@ -23,118 +20,83 @@ const MOST: usize = 81920;
 
 const MOST_INPUT: usize = 786432;
 
-// One more.
-fn more(count: u64) -> u64 {
-    std::num::wrapping_add_u64(count, 1)
-}
-
-fn write(rt: &impl Print, text: &[u8]) {
-    let _ = rt.write_all(text);
-}
-
-fn write_decimal(rt: &impl Print, n: u64) {
-    let _ = rt.print(n);
-}
-
 // Writes how many cases of a service came out right.
-fn show(rt: &impl Print, name: &[u8], right: u64, all: u64) {
-    write(rt, name);
-    write_decimal(rt, right);
-    write(rt, b" of ");
-    write_decimal(rt, all);
-    write(rt, b"\n");
+fn show(rt: &impl Print, service: Service, right: u64, all: u64) {
+    let name = service.name();
+    let _ = println!(rt; "{name}: {right} of {all}");
 }
 
-// Unpacks a case and runs it. Where it comes out wrong its number, if it is not 0, and its sentence are shown.
-fn run_packed(rt: &impl Print, service: u8, packed: &[u8], number: u64) -> bool {
-    let mut case = [0u8; MOST];
-    let size = packed::unpack(packed, &mut case);
-    let right = services::run(service, &case[..size]);
-    if !right && number > 0 {
-        write(rt, b"not right is case ");
-        write_decimal(rt, number);
-        write(rt, b": ");
-        write(rt, cases::sentence(&case[..size]));
-        write(rt, b"\n");
+// Says which case came out wrong, by its number and its sentence.
+fn show_wrong(rt: &impl Print, number: u64, case: &Case<'_>) {
+    let _ = print!(rt; "not right is case {number}: ");
+    let _ = rt.write_all(case.sentence());
+    let _ = rt.println("");
+}
+
+// Unpacks a case and runs it; where it comes out wrong it is shown under a number, if one is given.
+fn run_packed(rt: &impl Print, service: Service, packed: &[u8], shown: Option<u64>) -> bool {
+    let mut buffer = [0u8; MOST];
+    let case = Case::new(packed::unpack(packed, &mut buffer).unwrap_or(&[]));
+    let right = service.run(&case);
+    if !right && let Some(number) = shown {
+        show_wrong(rt, number, &case);
     }
     right
 }
 
-// Runs the cases of a service from a place of the input on, and gives the place behind them.
-fn run_service(rt: &impl Print, input: &[u8], from: usize, service: u8, name: &[u8]) -> usize
-    requires { from ≤ length input.now }
-    ensures { result ≤ length input.now }
-{
-    let mut at = from;
-    let mut right = 0;
-    let mut all = 0;
-    while SIZE <= input.len() - at {
-        let size = numbers::four(input, at) as usize;
-        at += SIZE;
+// Runs the cases of a service at the front of an input, and gives what is behind them.
+fn run_service<'a>(rt: &impl Print, input: &'a [u8], service: Service) -> &'a [u8] {
+    let mut rest = input;
+    let mut right = 0u64;
+    let mut all = 0u64;
+    // No `for`: each case says how long it is.
+    while let Some((size, behind)) = rest.split_first_chunk::<SIZE>() {
+        let size = u32::from_le_bytes(*size) as usize;
         if size == 0 {
-            show(rt, name, right, all);
-            return at;
+            show(rt, service, right, all);
+            return behind;
         }
-        if input.len() - at < size {
+        let Some((packed, next)) = behind.split_at_checked(size) else {
             break;
+        };
+        let number = all.saturating_add(1);
+        let shown = if right == all { Some(number) } else { None };
+        if run_packed(rt, service, packed, shown) {
+            right = right.saturating_add(1);
         }
-        let end = at + size;
-        let number = if right == all { more(all) } else { 0 };
-        if run_packed(rt, service, &input[at..end], number) {
-            right = more(right);
-        }
-        all = more(all);
-        at = end;
+        all = number;
+        rest = next;
     }
-    show(rt, name, right, all);
-    write(rt, b"there the input breaks off\n");
-    input.len()
+    show(rt, service, right, all);
+    let _ = rt.println("there the input breaks off");
+    &[]
 }
 
 // Runs the cases of all seven services.
 fn run_all(rt: &impl Print, input: &[u8]) {
-    let at = run_service(rt, input, 0, services::READ_PAGE, b"read page: ");
-    let at = run_service(rt, input, at, services::WRITE_PAGE, b"write page: ");
-    let at = run_service(rt, input, at, services::PLAN, b"plan: ");
-    let at = run_service(rt, input, at, services::COMMIT, b"commit: ");
-    let at = run_service(rt, input, at, services::READ_TONNAGE, b"read tonnage: ");
-    let at = run_service(rt, input, at, services::WRITE_TONNAGE, b"write tonnage: ");
-    let at = run_service(
-        rt,
-        input,
-        at,
-        services::PLAN_AND_COMMIT,
-        b"plan and commit: ",
-    );
-    if at != input.len() {
-        write(rt, b"the input does not end there\n");
+    let mut rest = input;
+    for service in SERVICES {
+        rest = run_service(rt, rest, service);
+    }
+    if !rest.is_empty() {
+        let _ = rt.println("the input does not end there");
     }
 }
 
-// Reads an input until the buffer is full, the input ends or a read fails, and gives how many bytes it put at the front.
-fn read_full(input: &mut impl Read, buffer: &mut [u8]) -> usize
-    ensures { IsPrefixLen result buffer.new }
-{
+// Reads an input until the buffer is full, the input ends or a read fails, and gives the bytes.
+fn read_full<'a>(input: &mut impl Read, buffer: &'a mut [u8]) -> &'a [u8] {
     let mut at = 0;
-    while at < buffer.len() {
-        let Ok(count) = input.read(&mut buffer[at..]) else {
-            break;
-        };
-        if count == 0 {
-            break;
-        }
+    // No `for`: each read moves on by the bytes that it gives.
+    while let Ok(count) = input.read(&mut buffer[at..])
+        && count > 0
+    {
         at += count;
     }
-    at
+    &buffer[..at]
 }
 
 // Reads standard input into a buffer and runs it; of an input that is too long a part is missing, which is said.
-fn run(rt: &(impl Input + Print), buffer: &mut [u8]) {
-    let size = read_full(&mut rt.reader(), buffer);
-    run_all(rt, &buffer[..size]);
-}
-
 fn main(rt: HostRuntime) {
     let mut buffer = [0u8; MOST_INPUT];
-    run(&rt, &mut buffer);
+    run_all(&rt, read_full(&mut rt.reader(), &mut buffer));
 }

@@ -1,20 +1,7 @@
 // The seven services, each run on what a case lends: right where what it gives and every element that it leaves are due.
-use crate::{cases, given, lent_lists, numbers, transactions};
-
-// The services by their numbers, in document 01's order, and last the joined call.
-pub const READ_PAGE: u8 = 0;
-
-pub const WRITE_PAGE: u8 = 1;
-
-pub const PLAN: u8 = 2;
-
-pub const COMMIT: u8 = 3;
-
-pub const READ_TONNAGE: u8 = 4;
-
-pub const WRITE_TONNAGE: u8 = 5;
-
-pub const PLAN_AND_COMMIT: u8 = 6;
+use crate::cases::{Case, Lengths};
+use crate::given;
+use ledger::{Read, State, StateMut, Transaction, Version, Write};
 
 // What a list that is lent to be filled holds before.
 const LENT: u8 = 0xaa;
@@ -22,180 +9,228 @@ const LENT: u8 = 0xaa;
 // The longest such list.
 const MOST_BYTES: usize = 34816;
 
-fn read_page(case: &[u8]) -> bool {
-    let answer = ledger::page::read::read_page(cases::bytes(case));
-    let check = answer.check;
-    let transaction = answer.transaction;
-    let at = cases::end(case, cases::VALUES_END);
-    transactions::same(case, cases::DUE, transaction)
-        && cases::is_right(case, given::page_read(check), at)
+// More keys than the 1024 that are taken.
+const MOST_KEYS: usize = 1100;
+
+// The transaction that is due with a refusal: none.
+const NO_TRANSACTION: Transaction = Transaction {
+    ticket: 0,
+    r: 0,
+    w: 0,
+    reads: [Read {
+        key: 0,
+        version: Version { block: 0, place: 0 },
+    }; 32],
+    writes: [Write {
+        key: 0,
+        kind: 0,
+        value: 0,
+    }; 32],
+};
+
+// The services in document 01's order, and last the joined call.
+#[derive(Clone, Copy)]
+pub enum Service {
+    ReadPage,
+    WritePage,
+    Plan,
+    Commit,
+    ReadTonnage,
+    WriteTonnage,
+    PlanAndCommit,
 }
 
-fn write_page(case: &[u8], batch: &mut [u8]) -> bool {
-    let size = cases::length(case, cases::BUFFER, batch.len());
-    let index = numbers::eight(case, cases::ASKED) as usize;
-    let lent = transactions::transaction(case, cases::LENT);
-    let answer = ledger::page::write::write_page(&mut batch[..size], index, lent);
-    let at = lent_lists::same_bytes(case, cases::end(case, cases::VALUES_END), batch, size);
-    cases::is_right(case, given::answered(answer), at)
+pub const SERVICES: [Service; 7] = [
+    Service::ReadPage,
+    Service::WritePage,
+    Service::Plan,
+    Service::Commit,
+    Service::ReadTonnage,
+    Service::WriteTonnage,
+    Service::PlanAndCommit,
+];
+
+impl Service {
+    pub fn name(self) -> &'static str {
+        match self {
+            Service::ReadPage => "read page",
+            Service::WritePage => "write page",
+            Service::Plan => "plan",
+            Service::Commit => "commit",
+            Service::ReadTonnage => "read tonnage",
+            Service::WriteTonnage => "write tonnage",
+            Service::PlanAndCommit => "plan and commit",
+        }
+    }
+
+    // Runs a case of the service, in lists of its own.
+    pub fn run(self, case: &Case<'_>) -> bool {
+        let mut lists = Lists::new(case);
+        let lent = lists.cut(case.lengths);
+        match self {
+            Service::ReadPage => read_page(case),
+            Service::WritePage => write_page(case, lent),
+            Service::Plan => plan(case, lent),
+            Service::Commit => commit(case, lent),
+            Service::ReadTonnage => read_tonnage(case),
+            Service::WriteTonnage => write_tonnage(case, lent),
+            Service::PlanAndCommit => plan_and_commit(case, lent),
+        }
+    }
 }
 
-fn plan(
-    case: &[u8],
-    blocks: &[u32],
-    places: &[u16],
-    values: &[i64],
-    verdicts: &mut [u8],
-    order: &mut [u8],
-    out: &mut [u8],
-) -> bool {
-    let b = cases::length(case, cases::BLOCKS, blocks.len());
-    let p = cases::length(case, cases::PLACES, places.len());
-    let w = cases::length(case, cases::VALUES, values.len());
-    let v = cases::length(case, cases::VERDICTS, verdicts.len());
-    let o = cases::length(case, cases::ORDER, order.len());
-    let u = cases::length(case, cases::OUT, out.len());
-    let answer = planner::plan::plan_batch(
-        cases::bytes(case),
-        &blocks[..b],
-        &places[..p],
-        &values[..w],
-        numbers::four(case, cases::ASKED),
-        &mut verdicts[..v],
-        &mut order[..o],
-        &mut out[..u],
-    );
-    let at = lent_lists::same_bytes(case, cases::end(case, cases::VALUES_END), verdicts, v);
-    let at = lent_lists::same_bytes(case, at, order, o);
-    let at = lent_lists::same_bytes(case, at, out, u);
-    cases::is_right(case, given::answered(answer), at)
+// Room for every list that is lent.
+#[derive(Drop)]
+struct Lists {
+    blocks: [u32; MOST_KEYS],
+    places: [u16; MOST_KEYS],
+    values: [i64; MOST_KEYS],
+    verdicts: [u8; MOST_BYTES],
+    order: [u8; MOST_BYTES],
+    out: [u8; MOST_BYTES],
 }
 
-fn commit(
-    case: &[u8],
-    blocks: &mut [u32],
-    places: &mut [u16],
-    values: &mut [i64],
-    verdicts: &mut [u8],
-) -> bool {
-    let b = cases::length(case, cases::BLOCKS, blocks.len());
-    let p = cases::length(case, cases::PLACES, places.len());
-    let w = cases::length(case, cases::VALUES, values.len());
-    let v = cases::length(case, cases::VERDICTS, verdicts.len());
-    let answer = ledger::commit::commit_batch(
-        cases::bytes(case),
-        &mut blocks[..b],
-        &mut places[..p],
-        &mut values[..w],
-        numbers::four(case, cases::ASKED),
-        &mut verdicts[..v],
-    );
-    let at = lent_lists::same_bytes(case, cases::end(case, cases::VALUES_END), verdicts, v);
-    let at = lent_lists::same_state(case, at, blocks, places, values, b, p, w);
-    cases::is_right(case, given::answered(answer), at)
+// The lists in the lengths of a case; a page or a text is written in the verdicts' list.
+#[derive(Drop)]
+struct Lent<'a> {
+    blocks: &'a mut [u32],
+    places: &'a mut [u16],
+    values: &'a mut [i64],
+    verdicts: &'a mut [u8],
+    order: &'a mut [u8],
+    out: &'a mut [u8],
 }
 
-fn read_tonnage(case: &[u8]) -> bool {
-    let answer = tonnage::text::read_tonnage(cases::bytes(case));
-    let at = cases::end(case, cases::VALUES_END);
-    cases::is_right(case, given::text_read(answer), at)
+// The front of a list, but no more than there is: a case with a longer list comes out wrong.
+fn front<T, const N: usize>(list: &mut [T; N], length: usize) -> &mut [T] {
+    let end = length.min(N);
+    &mut list[..end]
 }
 
-fn write_tonnage(case: &[u8], text: &mut [u8]) -> bool {
-    let size = cases::length(case, cases::BUFFER, text.len());
-    let kilograms = numbers::signed(case, cases::ASKED);
-    let answer = tonnage::text::write_tonnage(&mut text[..size], kilograms);
-    let at = lent_lists::same_bytes(case, cases::end(case, cases::VALUES_END), text, size);
-    cases::is_right(case, given::answered(answer), at)
+impl Lists {
+    fn new(case: &Case<'_>) -> Lists {
+        Lists {
+            blocks: case.blocks(),
+            places: case.places(),
+            values: case.values(),
+            verdicts: [LENT; MOST_BYTES],
+            order: [LENT; MOST_BYTES],
+            out: [LENT; MOST_BYTES],
+        }
+    }
+
+    fn cut(&mut self, lengths: Lengths) -> Lent<'_> {
+        Lent {
+            blocks: front(&mut self.blocks, lengths.blocks),
+            places: front(&mut self.places, lengths.places),
+            values: front(&mut self.values, lengths.values),
+            verdicts: front(&mut self.verdicts, lengths.verdicts),
+            order: front(&mut self.order, lengths.order),
+            out: front(&mut self.out, lengths.out),
+        }
+    }
 }
 
-// Plans and commits in lists that have the lengths of the case.
-fn joined(
-    case: &[u8],
-    blocks: &mut [u32],
-    places: &mut [u16],
-    values: &mut [i64],
-    verdicts: &mut [u8],
-    order: &mut [u8],
-) -> bool {
-    let answer = planner::joined::plan_and_commit(
-        cases::bytes(case),
+fn read_page(case: &Case<'_>) -> bool {
+    let answer = ledger::page::read::read_page(case.bytes());
+    answer.unwrap_or(NO_TRANSACTION) == case.due
+        && case.is_right(given::answered(answer), case.left())
+}
+
+fn write_page(case: &Case<'_>, lent: Lent<'_>) -> bool {
+    let answer = ledger::page::write::write_page(lent.verdicts, case.index(), case.lent);
+    let mut left = case.left();
+    left.meets(lent.verdicts) && case.is_right(given::answered(answer), left)
+}
+
+fn plan(case: &Case<'_>, lent: Lent<'_>) -> bool {
+    let Lent {
         blocks,
         places,
         values,
-        numbers::four(case, cases::ASKED),
+        verdicts,
+        order,
+        out,
+    } = lent;
+    let state = State {
+        blocks,
+        places,
+        values,
+    };
+    let answer = planner::plan::plan_batch(
+        case.bytes(),
+        state,
+        case.number(),
+        verdicts,
+        order,
+        out,
+    );
+    let mut left = case.left();
+    left.meets(verdicts)
+        && left.meets(order)
+        && left.meets(out)
+        && case.is_right(given::answered(answer), left)
+}
+
+fn commit(case: &Case<'_>, lent: Lent<'_>) -> bool {
+    let Lent {
+        blocks,
+        places,
+        values,
+        verdicts,
+        ..
+    } = lent;
+    let mut state = StateMut {
+        blocks,
+        places,
+        values,
+    };
+    let answer = ledger::commit::commit_batch(case.bytes(), &mut state, case.number(), verdicts);
+    let mut left = case.left();
+    left.meets(verdicts)
+        && left.meets(state.blocks)
+        && left.meets(state.places)
+        && left.meets(state.values)
+        && case.is_right(given::answered(answer), left)
+}
+
+fn read_tonnage(case: &Case<'_>) -> bool {
+    let answer = tonnage::text::read_tonnage(case.bytes());
+    case.is_right(given::answered(answer), case.left())
+}
+
+fn write_tonnage(case: &Case<'_>, lent: Lent<'_>) -> bool {
+    let answer = tonnage::text::write_tonnage(lent.verdicts, case.kilograms());
+    let mut left = case.left();
+    left.meets(lent.verdicts) && case.is_right(given::answered(answer), left)
+}
+
+fn plan_and_commit(case: &Case<'_>, lent: Lent<'_>) -> bool {
+    let Lent {
+        blocks,
+        places,
+        values,
+        verdicts,
+        order,
+        ..
+    } = lent;
+    let mut state = StateMut {
+        blocks,
+        places,
+        values,
+    };
+    let answer = planner::joined::plan_and_commit(
+        case.bytes(),
+        &mut state,
+        case.number(),
         verdicts,
         order,
     );
-    let at = cases::end(case, cases::VALUES_END);
-    let at = lent_lists::same_bytes(case, at, verdicts, verdicts.len());
-    let at = lent_lists::same_bytes(case, at, order, order.len());
-    let at = lent_lists::same_state(
-        case,
-        at,
-        blocks,
-        places,
-        values,
-        blocks.len(),
-        places.len(),
-        values.len(),
-    );
-    cases::is_right(case, given::answered(answer), at)
-}
-
-fn plan_and_commit(
-    case: &[u8],
-    blocks: &mut [u32],
-    places: &mut [u16],
-    values: &mut [i64],
-    verdicts: &mut [u8],
-    order: &mut [u8],
-) -> bool {
-    let b = cases::length(case, cases::BLOCKS, blocks.len());
-    let p = cases::length(case, cases::PLACES, places.len());
-    let w = cases::length(case, cases::VALUES, values.len());
-    let v = cases::length(case, cases::VERDICTS, verdicts.len());
-    let o = cases::length(case, cases::ORDER, order.len());
-    joined(
-        case,
-        &mut blocks[..b],
-        &mut places[..p],
-        &mut values[..w],
-        &mut verdicts[..v],
-        &mut order[..o],
-    )
-}
-
-// Runs a case of a service, in lists of its own.
-pub fn run(service: u8, case: &[u8]) -> bool {
-    let mut blocks = lent_lists::blocks(case, cases::end(case, cases::BYTES_END));
-    let mut places = lent_lists::places(case, cases::end(case, cases::BLOCKS_END));
-    let mut values = lent_lists::values(case, cases::end(case, cases::PLACES_END));
-    let mut verdicts = [LENT; MOST_BYTES];
-    let mut order = [LENT; MOST_BYTES];
-    let mut out = [LENT; MOST_BYTES];
-    match service {
-        READ_PAGE => read_page(case),
-        WRITE_PAGE => write_page(case, &mut out),
-        PLAN => plan(
-            case,
-            &blocks,
-            &places,
-            &values,
-            &mut verdicts,
-            &mut order,
-            &mut out,
-        ),
-        COMMIT => commit(case, &mut blocks, &mut places, &mut values, &mut verdicts),
-        READ_TONNAGE => read_tonnage(case),
-        WRITE_TONNAGE => write_tonnage(case, &mut out),
-        _ => plan_and_commit(
-            case,
-            &mut blocks,
-            &mut places,
-            &mut values,
-            &mut verdicts,
-            &mut order,
-        ),
-    }
+    let mut left = case.left();
+    left.meets(verdicts)
+        && left.meets(order)
+        && left.meets(state.blocks)
+        && left.meets(state.places)
+        && left.meets(state.values)
+        && case.is_right(given::answered(answer), left)
 }

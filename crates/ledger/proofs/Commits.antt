@@ -12,8 +12,7 @@ use lib.Dec.{eqb, ltb}
 use lib.IntN.{pos}
 use borrow.Author.Tests.{ne_eqb, not-false}
 use Rattle.lists.specs.Search.{first_in}
-use Rattle.lists.proofs.Searches.{within, all_search}
-use Rattle.lists.proofs.Tests.{eqb-not}
+use Rattle.lists.proofs.Searches.{some, none, all_search}
 use Rattle.lists.proofs.Membership.{those-append}
 use Rattle.refusals.specs.Outcome.{Outcome, gives, refuses}
 use Rattle.refusals.specs.Fault.{clear, fault, Row}
@@ -76,7 +75,7 @@ pub record Kept (s t : State) : Type 0 where
   pub places : length t.places ≡ length s.places
   pub values : length t.values ≡ length s.values
 
-pub kept_level : (s t : State) → Kept s t → Level s.blocks s.places s.values → Level t.blocks t.places t.values
+pub kept_level : (s t : State) → Kept s t → Level s → Level t
 kept_level s t k l = record { places = k.places ∙ l.places ∙ sym k.blocks; values = k.values ∙ l.values ∙ sym k.blocks }
 
 pub kept_self : (s : State) → Kept s s
@@ -124,14 +123,20 @@ applied-next tx n i s = rw (tab-more tx i, applied-last, length-tab, zero-add)
 
 -- ---- the version check, as a search
 
-pub passes_search : (held : ℕ → Version) (x : Tx) (n stop : ℕ) → n ≡ length x.reads
-    → stop ≡ first_in (λ i. not (names held (read_of x.reads i))) 0 (length x.reads)
-    → eqb stop n ≡ passes held x
-unfolding passes
-passes_search held x n stop count found =
-    rw (count, found)
-    (eqb-not _ _ (within (λ i. not (names held (read_of x.reads i))) 0 (length x.reads) (omega arith))
-    ∙ sym (all_search (names held) no_read x.reads))
+-- it stops at the first read that does not name the version of its key, or behind the last
+module _ (held : ℕ → Version) (x : Tx) where
+  abbrev stale : ℕ → Bool
+  stale i = not (names held (read_of x.reads i))
+
+  pub fails_search : (stop : ℕ) → stop ≡ first_in stale 0 (length x.reads) → stop < length x.reads → false ≡ passes held x
+  unfolding passes
+  fails_search stop found l =
+      sym (all_search (names held) no_read x.reads ∙ ap not (some stale 0 (length x.reads) stop found l))
+
+  pub passes_search : length x.reads ≡ first_in stale 0 (length x.reads) → true ≡ passes held x
+  unfolding passes
+  passes_search end =
+      sym (all_search (names held) no_read x.reads ∙ ap not (none stale 0 (length x.reads) (length x.reads) end (omega arith)))
 
 -- ---- what a write leaves
 
@@ -155,7 +160,7 @@ module _ {st : Stamp} {s : State} {ws : List Write} {j : ℕ} {t : State} (h : W
   pub writing_kept : Kept s t
   writing_kept = rw h.so_far (write_kept st s (take j ws))
 
-  pub writing_level : Level s.blocks s.places s.values → Level t.blocks t.places t.values
+  pub writing_level : Level s → Level t
   writing_level l = kept_level s t writing_kept l
 
   pub writing_turns : (w : Write) (u : State) → j < length ws → w ≡ write_of ws j → u ≡ store t w.key (left st w) → Writing st s ws (j + 1) u

@@ -9,6 +9,7 @@ use borrow.Author.Tests.{ltb-false, eqb-true, not-false, eq-eqb, ne_eqb}
 use Rattle.lists.specs.Search.{some_in}
 use Rattle.refusals.specs.Outcome.{gives, refuses}
 use Rattle.refusals.specs.Fault.{Fault, clear, fault, first}
+use Rattle.std.specs.Prelude.{Ok}
 use Rattle.refusals.proofs.Rows.{row_none, row-passed, append-clear, append-fault, append_none, judged-gives, judged-refuses}
 use lib.Seq.{sets}
 use Rattle.octets.specs.Bytes.{field, le, weighed, set?}
@@ -16,7 +17,8 @@ use Rattle.ledger.specs.Tx.{value_tx, padded}
 use Rattle.ledger.specs.Page.{read_count, write_count, size, count_rows, entry_rows, head_rows, length_row, spare_row, whole_rows, page_rows, page_fault, page_tx, page_of, with_page}
 use Rattle.ledger.specs.Inner.{Counted, write_laid}
 use Rattle.ledger.specs.declared.Transaction.{Transaction}
-use Rattle.ledger.specs.Services.{Counts, no_transaction, check_page, read_page, index_row, laid_rows, write_rows, write_fault, write_page}
+use Rattle.ledger.specs.declared.Counts.{Counts}
+use Rattle.ledger.specs.Services.{no_transaction, taken, check_page, read_page, index_row, laid_rows, write_rows, write_fault, write_page}
 
 -- ---- tests
 
@@ -149,10 +151,10 @@ module _ (p : List ℕ) where
   unfolding check_page
   check-refused n q e = rw e
 
-  pub check-taken : (r w : ℕ) → r ≡ length (page_tx p).reads → w ≡ length (page_tx p).writes → page_fault p ≡ clear
-      → gives (record { reads = r; writes = w }) ≡ check_page p
+  pub check-taken : (x : Counts) → x ≡ record { reads = length (page_tx p).reads; writes = length (page_tx p).writes } → page_fault p ≡ clear
+      → gives x ≡ check_page p
   unfolding check_page
-  check-taken r w er ew e = rw (e, er, ew)
+  check-taken x is e = rw (e, is)
 
   -- what the answer of the check says of the page
   pub taken_none : (x : Counts) → gives x ≡ check_page p → page_fault p ≡ clear
@@ -164,12 +166,12 @@ module _ (p : List ℕ) where
   refused-some n q e = judged-refuses _ _ _ _ e
 
   -- what reading it gives
-  pub read_taken : page_fault p ≡ clear → record { answer = check_page p; transaction = padded (page_tx p) } ≡ read_page p
-  unfolding read_page
+  pub read_taken : page_fault p ≡ clear → taken (Ok (padded (page_tx p))) ≡ read_page p
+  unfolding read_page check_page padded
   read_taken e = rw e
 
-  pub read-refused : (n q : ℕ) → page_fault p ≡ fault n q → record { answer = check_page p; transaction = no_transaction } ≡ read_page p
-  unfolding read_page
+  pub read-refused : (n q : ℕ) → page_fault p ≡ fault n q → record { answer = refuses n q; transaction = no_transaction } ≡ read_page p
+  unfolding read_page check_page
   read-refused n q e = rw e
 
 -- ---- 4 to 9, then 17

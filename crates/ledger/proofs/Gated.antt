@@ -128,7 +128,7 @@ whole batch e =
 
 -- three lists of one length, 1 to 1024
 pub record Sized (s : State) : Type 0 where
-  pub level : Level s.blocks s.places s.values
+  pub level : Level s
   pub some : 0 < keys s
   pub few : keys s ≤ 1024
 
@@ -166,7 +166,7 @@ sorted batch k l e =
 
 -- a batch, a state and a number that may be planned and committed
 pub record Through (batch : List ℕ) (s : State) (n : ℕ) : Type 0 where
-  pub level : Level s.blocks s.places s.values
+  pub level : Level s
   pub some : 0 < keys s
   pub few : keys s ≤ 1024
   pub ready : Batch (keys s) batch (pages batch)

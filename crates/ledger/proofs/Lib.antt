@@ -4,6 +4,7 @@ pub mod OnPage
 pub mod Stored
 pub mod Laid
 pub mod Valued
+pub mod Listed
 pub mod Placed
 pub mod Faults
 pub mod Exact
@@ -13,6 +14,7 @@ pub mod Pages
 pub mod Rising
 pub mod Entering
 pub mod Goodness
+pub mod Walked
 pub mod Zero
 pub mod Apart
 pub mod Entries

@@ -1,5 +1,5 @@
 -- The keys of a good page rise, so that its last keys tell whether it has one that is too high. Assumes nothing.
-use mathlib.Core.Path.{◌≡◌, sym, ap, ap₂, ◌∙◌}
+use mathlib.Core.Path.{◌≡◌, refl, sym, ap, ap₂, ◌∙◌}
 use mathlib.Core.Bool.{Bool, true, false, not, ◌||◌}
 use mathlib.Core.Logic.{⊎_elim}
 use mathlib.Core.List.{List}
@@ -7,8 +7,9 @@ use Prim.Native.Nat.{ℕ, zero, suc, ◌-◌, ◌≤◌, ◌<◌}
 use native.Mathlib.Nat.{eq-or-lt_of_le, le_of_suc-le-suc}
 use native.Mathlib.Omega.{arith}
 use lib.ListN.{length}
-use lib.Dec.{ltb}
-use borrow.Author.Tests.{ltb-true, ltb-false, lt-ltb, le-ltb, not-false}
+use lib.Dec.{ltb, leb}
+use Rattle.std.proofs.lemmas.Bool.{leb-false}
+use borrow.Author.Tests.{leb-true, ltb-true, ltb-false, lt-ltb, le-ltb, not-false}
 use Rattle.lists.specs.Search.{some_in}
 use Rattle.lists.proofs.Searches.{missed, none_at, some_at, any_search}
 use Rattle.ledger.specs.Tx.{Tx, no_read, no_write, read_of, write_of, floor_of, out_of_turn, wrong_kind}
@@ -58,6 +59,14 @@ module _ (key : ℕ → ℕ) (n k : ℕ) (r : Rising key n) (m x : ℕ) (count :
 
   pub last_within : x < k → some_in (λ i. not (ltb (key i) k)) 0 n ≡ false
   last_within l = none_at (λ i. not (ltb (key i) k)) n (λ i h. ap not (lt-ltb (key i) k (below_last l i h)))
+
+  -- so the test of the last one tells
+  pub last_tells : 0 < m → some_in (λ i. not (ltb (key i) k)) 0 n ≡ leb k x
+  last_tells h = go (leb k x) refl
+    where
+      go : (b : Bool) → leb k x ≡ b → some_in (λ i. not (ltb (key i) k)) 0 n ≡ leb k x
+      go true e = last-beyond h (leb-true k x e) ∙ sym e
+      go false e = last_within (leb-false k x e) ∙ sym e
 
 -- no key is too high where there is none
 pub none_within : (key : ℕ → ℕ) (n k m : ℕ) → m ≡ n → m ≤ 0 → some_in (λ i. not (ltb (key i) k)) 0 n ≡ false

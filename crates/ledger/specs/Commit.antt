@@ -1,7 +1,7 @@
 -- Document 01, 'Version check and commit'. Assumes nothing.
-use Rattle.std.specs.Prelude.{ℕ, suc, Bool, cond, List, [], ◌∷◌, ◌++◌, length, drop, eqb, ltb, pos}
+use Rattle.std.specs.Prelude.{ℕ, suc, Bool, cond, List, [], ◌∷◌, ◌++◌, length, drop, eqb, ltb, pos, Result}
 use Rattle.lists.specs.Members.{all, those}
-use Rattle.refusals.specs.declared.Answer.{Answer}
+use Rattle.refusals.specs.declared.Refusal.{Refusal}
 use Rattle.refusals.specs.Outcome.{Outcome, outcome}
 use Rattle.refusals.specs.Fault.{Row, first, judged, after}
 use Rattle.ledger.specs.declared.Version.{Version}
@@ -85,5 +85,5 @@ commit_batch batch s n vs =
     }
 
 -- the answer of commit as an outcome, with what was lent as it is at the end
-abbrev pub committed : Answer → State → List ℕ → Commits
+abbrev pub committed : Result ℕ Refusal → State → List ℕ → Commits
 committed a s vs = record { answer = outcome a; state = s; verdicts = vs }

@@ -1,9 +1,9 @@
 -- What only the contracts between the ledger's functions say: no reader of a service's promise needs it. Assumes nothing.
-use Rattle.std.specs.Prelude.{ℕ, suc, ◌+◌, ◌*◌, ◌/◌, ◌≤◌, ◌<◌, false, List, [], ◌∷◌, ◌++◌, ◌≡◌, length, get_or, drop, ℤ}
+use Rattle.std.specs.Prelude.{ℕ, suc, ◌*◌, ◌/◌, ◌≤◌, ◌<◌, false, List, [], ◌∷◌, ◌++◌, ◌≡◌, length, get_or, drop}
 use Rattle.std.proofs.lemmas.List.Edits.{sets}
 use Rattle.lists.specs.Tables.{tab}
 use Rattle.refusals.specs.Fault.{clear, first, judged, after}
-use Rattle.octets.specs.Bytes.{field, le, weighed}
+use Rattle.octets.specs.Bytes.{le, weighed}
 use Rattle.ledger.specs.Tx.{Tx}
 use Rattle.ledger.specs.Page.{read_count, write_count, size, page_tx, page_fault, page_at, with_page}
 use Rattle.ledger.specs.Services.{WrittenPage, laid_rows}
@@ -18,20 +18,16 @@ pub record Counted (p : List ℕ) : Type 0 where
   pub few-writes : write_count p ≤ 32
   pub room : size (read_count p) (write_count p) ≤ 500
 
--- the key of the i-th of entries that start at `from`, `step` bytes apart: "key 2" stands first in a read and in a write
-abbrev pub key_at : List ℕ → ℕ → ℕ → ℕ → ℕ
-key_at p from step i = field p (from + step * i) 2
-
 -- what writing leaves of bytes that are laid out already, with the check put behind them
 unfoldable pub write_laid : List ℕ → ℕ → List ℕ → WrittenPage
 write_laid batch index p =
     let wrong = first (laid_rows (page_tx p) index (length batch / 512)) in
     record { answer = judged wrong 0; batch = after wrong (with_page batch index (sets p 508 (le 4 (weighed p 508)))) batch }
 
--- three lists of one length
-pub record Level (b p : List ℕ) (v : List ℤ) : Type 0 where
-  pub places : length p ≡ length b
-  pub values : length v ≡ length b
+-- a state of three lists of one length
+pub record Level (s : State) : Type 0 where
+  pub places : length s.places ≡ length s.blocks
+  pub values : length s.values ≡ length s.blocks
 
 -- a good page whose keys are below k
 pub record Ready (k : ℕ) (p : List ℕ) : Type 0 where

@@ -9,3 +9,4 @@ pub mod Gate
 pub mod Byte
 pub mod Commit
 pub mod Inner
+pub mod Listed

@@ -1,29 +1,17 @@
 -- What the services on pages answer, for every input. Assumes nothing.
-use Rattle.std.specs.Prelude.{ℕ, ◌/◌, not, List, [], ◌∷◌, ◌++◌, length, replicate, ltb}
-use Rattle.refusals.specs.declared.Answer.{Answer}
-use Rattle.refusals.specs.Outcome.{Outcome, gives, refuses, outcome}
+use Rattle.std.specs.Prelude.{ℕ, ◌/◌, not, List, [], ◌∷◌, ◌++◌, length, replicate, ltb, Result, Ok, Err}
+use Rattle.refusals.specs.declared.Refusal.{Refusal}
+use Rattle.refusals.specs.Outcome.{Outcome, gives, refuses, number_of}
 use Rattle.refusals.specs.Fault.{Fault, Row, row, first, judged, after}
 use Rattle.ledger.specs.declared.Transaction.{Transaction}
-use Rattle.ledger.specs.declared.PageCheck.{PageCheck}
-use Rattle.ledger.specs.declared.PageCheck.TheVariants.{Good, Bad}
-use Rattle.ledger.specs.declared.PageRead.{PageRead}
+use Rattle.ledger.specs.declared.Counts.{Counts}
 use Rattle.ledger.specs.Tx.{Tx, value_tx, padded, no_read, no_write}
 use Rattle.ledger.specs.Page.{count_rows, entry_rows, page_tx, page_fault, page_of, with_page}
 
 -- ---- checking a page
 
--- the counts of a good page
-pub record Counts : Type 0 where
-  pub reads : ℕ
-  pub writes : ℕ
-
 unfoldable pub check_page : List ℕ → Outcome Counts
 check_page p = judged (page_fault p) (record { reads = length (page_tx p).reads; writes = length (page_tx p).writes })
-
--- the answer of the check as an outcome
-abbrev pub checked : PageCheck → Outcome Counts
-checked (Good r w) = gives (record { reads = r; writes = w })
-checked (Bad r) = refuses r.number r.place
 
 -- ---- reading a page
 
@@ -39,8 +27,10 @@ no_transaction = record { ticket = 0; r = 0; w = 0; reads = replicate 32 no_read
 unfoldable pub read_page : List ℕ → Taken
 read_page p = record { answer = check_page p; transaction = after (page_fault p) (padded (page_tx p)) no_transaction }
 
-abbrev pub taken : PageRead → Taken
-taken x = record { answer = checked x.check; transaction = x.transaction }
+-- the answer of the reader as an outcome, with the transaction that comes with it
+abbrev pub taken : Result Transaction Refusal → Taken
+taken (Ok t) = record { answer = gives (record { reads = t.r; writes = t.w }); transaction = t }
+taken (Err r) = record { answer = refuses (number_of r.reason) r.place; transaction = no_transaction }
 
 -- ---- writing a page
 
@@ -71,5 +61,6 @@ write_page batch index t =
     record { answer = judged wrong 0; batch = after wrong (with_page batch index (page_of (value_tx t))) batch }
 
 -- the answer of the writer as an outcome, with the batch as it is at the end
-abbrev pub wrote_page : Answer → List ℕ → WrittenPage
-wrote_page a b = record { answer = outcome a; batch = b }
+abbrev pub wrote_page : Result Unit Refusal → List ℕ → WrittenPage
+wrote_page (Ok u) b = record { answer = gives 0; batch = b }
+wrote_page (Err r) b = record { answer = refuses (number_of r.reason) r.place; batch = b }

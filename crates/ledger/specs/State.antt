@@ -1,8 +1,10 @@
 -- Document 01, 'Ledger state'. Assumes nothing.
-use Rattle.std.specs.Prelude.{ℕ, Bool, not, ◌&&◌, ◌||◌, List, ◌∷◌, length, get_or, set, eqb, leb, ltb, ℤ, pos}
+use Rattle.std.specs.Prelude.{ℕ, Bool, not, ◌&&◌, ◌||◌, List, ◌∷◌, length, get_or, set, eqb, leb, ltb, ℤ, pos, ◌≡◌}
 use Rattle.refusals.specs.Fault.{Row, row, each_row}
 use Rattle.ledger.specs.declared.Version.{Version}
 use Rattle.ledger.specs.declared.Entry.{Entry}
+use Rattle.ledger.specs.declared.state.State.{State as Lent}
+use Rattle.ledger.specs.declared.state.StateMut.{StateMut}
 use Rattle.ledger.specs.Value.{is_zero}
 use Rattle.ledger.specs.Version.{absent, at, is_present, is_deleted, is_absent}
 
@@ -15,6 +17,21 @@ pub record State : Type 0 where
 -- the three lists as one state
 abbrev pub state_of : List ℕ → List ℕ → List ℤ → State
 state_of b p v = record { blocks = b; places = p; values = v }
+
+-- the state in three lists that are lent to be read
+abbrev pub lent : Lent → State
+lent l = state_of l.blocks.now l.places.now l.values.now
+
+-- the state in three lists that are lent to be written
+abbrev pub held : StateMut → State
+held l = state_of l.blocks.now l.places.now l.values.now
+
+-- the lists are those that were lent
+abbrev pub SameLists : StateMut → StateMut → Type 0
+SameLists l m =
+    (m.blocks.ghost_name ≡ l.blocks.ghost_name)
+    × (m.places.ghost_name ≡ l.places.ghost_name)
+    × (m.values.ghost_name ≡ l.values.ghost_name)
 
 -- "Absent is block 0, place 65535, value 0": the entry of a key never written
 abbrev pub never : Entry

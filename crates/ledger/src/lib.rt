@@ -1,24 +1,29 @@
 // The ledger: pages, the state, the gate of a batch, version check and commit.
 #![tactic(auto)]
 
-use refusals::Refusal;
-
 // A version: a block number and a place.
-#[derive(Clone, Copy)]
+#[derive(Clone, Copy, PartialEq, Eq)]
 pub struct Version {
     pub block: u32,
     pub place: u16,
 }
 
 // A read: a key, and the version that it names.
-#[derive(Clone, Copy)]
+#[derive(Clone, Copy, PartialEq, Eq)]
 pub struct Read {
     pub key: u16,
     pub version: Version,
 }
 
-// A write: a key, 0 for put or 1 for delete, and the value that is put.
-#[derive(Clone, Copy)]
+// "Kind 0 puts, kind 1 deletes".
+#[derive(Clone, Copy, PartialEq, Eq)]
+pub enum Kind {
+    Put = 0,
+    Delete = 1,
+}
+
+// A write: a key, a kind, and the value that is put. The kind is a number, since a page may have any: refusal 9 tells of it.
+#[derive(Clone, Copy, PartialEq, Eq)]
 pub struct Write {
     pub key: u16,
     pub kind: u16,
@@ -26,21 +31,21 @@ pub struct Write {
 }
 
 // What stands at a key: a version, and a value in kilograms.
-#[derive(Clone, Copy)]
+#[derive(Clone, Copy, PartialEq, Eq)]
 pub struct Entry {
     pub version: Version,
     pub value: i64,
 }
 
 // What the writes of a page are marked with: the number of the batch, and the page's place in it.
-#[derive(Clone, Copy)]
+#[derive(Clone, Copy, PartialEq, Eq)]
 pub struct Stamp {
     pub number: u32,
     pub place: u16,
 }
 
-// A transaction: `r` reads and `w` writes; entries beyond these count for nothing.
-#[derive(Clone, Copy)]
+// A transaction: `r` reads and `w` writes; entries beyond these count for nothing. Arrays and counts, since nothing is allocated.
+#[derive(Clone, Copy, PartialEq, Eq)]
 pub struct Transaction {
     pub ticket: u32,
     pub r: usize,
@@ -49,18 +54,11 @@ pub struct Transaction {
     pub writes: [Write; layout::MOST_ENTRIES],
 }
 
-// What checking a page finds: its counts of reads and writes, or its first fault.
-#[derive(Clone, Copy)]
-pub enum PageCheck {
-    Good { reads: u32, writes: u32 },
-    Bad { refusal: Refusal },
-}
-
-// What reading a page finds: the check, and the transaction where the page is good.
-#[derive(Clone, Copy)]
-pub struct PageRead {
-    pub check: PageCheck,
-    pub transaction: Transaction,
+// The counts of a good page.
+#[derive(Clone, Copy, PartialEq, Eq)]
+pub struct Counts {
+    pub reads: u32,
+    pub writes: u32,
 }
 
 pub mod batch;
@@ -69,4 +67,8 @@ pub mod layout;
 pub mod page;
 mod rules;
 pub mod state;
+pub mod verdict;
 mod versions;
+
+pub use page::content::Page;
+pub use state::{State, StateMut};

@@ -2,6 +2,8 @@
 pub mod check;
 pub mod content;
 pub mod counts;
+mod entries;
+mod entry;
 pub mod fill;
 mod good;
 pub mod read;

@@ -2,21 +2,18 @@
 ghost use Rattle.std.specs.Prelude.{◌≡◌};
 ghost use Rattle.ledger.specs.Tx.{wrong_key, wrong_version, wrong_kind};
 
-use crate::{Version, Write, layout};
+use crate::{Kind, Version, Write, layout};
 
-// The kinds of a write.
-pub const PUT: u16 = 0;
+// The kinds of a write, as a page has them.
+pub const PUT: u16 = Kind::Put as u16;
 
-pub const DELETE: u16 = 1;
+const DELETE: u16 = Kind::Delete as u16;
 
 // A key that is below the least that may stand here, or above 1023.
 pub fn key_wrong(floor: u32, key: u16) -> bool
     ensures { result ≡ wrong_key floor key }
 {
-    if (key as u32) < floor {
-        return true;
-    }
-    key > layout::LAST_KEY
+    (key as u32) < floor || key > layout::LAST_KEY
 }
 
 // A version that is neither present nor deleted nor absent.

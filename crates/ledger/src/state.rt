@@ -1,140 +1,170 @@
-// The ledger's state: block numbers, places and values, lent as three lists; key k is index k.
+// The ledger's state: what is read of it, what is stored in it, and its faults under a number.
 ghost use Rattle.std.specs.Prelude.{◌≡◌, not, ◌<◌, length, get_or};
-ghost use Rattle.lists.specs.Search.{first_in, some_in};
-ghost use Rattle.ledger.specs.Version.{at};
+ghost use Rattle.lists.specs.Search.{found_in, some_in};
 ghost use Rattle.refusals.specs.Fault.{first, finding};
-ghost use Rattle.ledger.specs.State.{state_of, versions_in, entry, store, present_under, wrong_entry, wrong_lengths, state_rows};
+ghost use Rattle.ledger.specs.State.{lent, held, SameLists, keys, versions, entry, store, present_under, wrong_entry, wrong_lengths, state_rows};
+ghost use Rattle.ledger.specs.Inner.{Level};
 
 use crate::{Entry, Version, layout};
-use refusals::Finding;
+use refusals::{Reason, Refusal};
 
-// Whether the three lists are unequal, empty or too long.
-pub fn lengths_wrong(blocks: &[u32], places: &[u16], values: &[i64]) -> bool
-    ensures { result ≡ wrong_lengths (state_of blocks.now places.now values.now) }
-{
-    let keys = blocks.len();
-    if places.len() != keys {
-        return true;
-    }
-    if values.len() != keys {
-        return true;
-    }
-    if keys == 0 {
-        return true;
-    }
-    keys > layout::MOST_KEYS
+// The ledger's state, lent to be read: block numbers, places and values; key k is index k. Three lists, as C lends them, and
+// of any lengths, since a service answers for each of them: that they have one length is a clause of what stands behind the
+// gate. Types that hold it, one to read and one to write, would be longer than these clauses.
+#[derive(Clone, Copy)]
+pub struct State<'a> {
+    pub blocks: &'a [u32],
+    pub places: &'a [u16],
+    pub values: &'a [i64],
 }
 
-// Whether a version is one that a present entry may have: a place of 0 to 63 of a block below n.
-fn present_under(v: Version, n: u32) -> bool
-    ensures { result ≡ present_under n v }
-{
-    v.is_present() & (v.block < n)
+// The same three lists, lent to be written.
+#[derive(Drop)]
+pub struct StateMut<'a> {
+    pub blocks: &'a mut [u32],
+    pub places: &'a mut [u16],
+    pub values: &'a mut [i64],
 }
 
-// An entry that is neither present under n, nor deleted under n with value 0, nor absent with value 0.
-fn entry_wrong(e: Entry, n: u32) -> bool
-    ensures { result ≡ wrong_entry n e }
-{
-    let version = e.version;
-    if version.is_present() {
-        return version.block >= n;
-    }
-    if e.value != 0 {
-        return true;
-    }
-    if version.is_deleted() {
-        return version.block >= n;
-    }
-    !version.same(Version::ABSENT)
-}
-
-// The version at a key.
-pub fn version_at(blocks: &[u32], places: &[u16], key: usize) -> Version
-    requires { (key < length blocks.now) × (key < length places.now) }
-    ensures { result ≡ at (get_or blocks.now key 0) (get_or places.now key 0) }
-{
-    Version::at(blocks[key], places[key])
-}
-
-// The entry at a key.
-pub fn entry_at(blocks: &[u32], places: &[u16], values: &[i64], key: usize) -> Entry
-    requires { (key < length blocks.now) × (key < length places.now) × (key < length values.now) }
-    ensures { result ≡ entry (state_of blocks.now places.now values.now) key }
-{
-    let version = version_at(blocks, places, key);
-    Entry {
-        version,
-        value: values[key],
+impl Version {
+    // Whether a present entry may have it: a place of 0 to 63 of a block below n.
+    fn is_present_under(self, n: u32) -> bool
+        ensures { result ≡ present_under n self }
+    {
+        self.is_present() & (self.block < n)
     }
 }
 
-// Whether each key has a version that a present entry may have. None ends the loop, so it is vector code.
-fn all_present(blocks: &[u32], places: &[u16], n: u32) -> bool
-    requires { length places.now ≡ length blocks.now }
-    ensures { result
-        ≡ not (some_in (λ k. not (present_under n (versions_in blocks.now places.now k))) 0
-        (length blocks.now)) }
-{
-    let mut other = false;
-    let mut k = 0;
-    while k < blocks.len() {
-        other = other | !present_under(version_at(blocks, places, k), n);
-        k += 1;
-    }
-    !other
-}
-
-// The lowest key whose entry is wrong; the count of keys where none is. Where all are present there is none.
-fn first_wrong(blocks: &[u32], places: &[u16], values: &[i64], n: u32) -> usize
-    requires { (length places.now ≡ length blocks.now) × (length values.now ≡ length blocks.now) }
-    ensures { let s = state_of blocks.now places.now values.now in
-        result ≡ first_in (λ k. wrong_entry n (entry s k)) 0 (length blocks.now) }
-{
-    if all_present(blocks, places, n) {
-        return blocks.len();
-    }
-    let mut k = 0;
-    while k < blocks.len() {
-        if entry_wrong(entry_at(blocks, places, values, k), n) {
-            return k;
+impl Entry {
+    // Neither present under n, nor deleted under n with value 0, nor absent with value 0.
+    fn is_wrong(self, n: u32) -> bool
+        ensures { result ≡ wrong_entry n self }
+    {
+        let version = self.version;
+        if version.is_present() {
+            return version.block >= n;
         }
-        k += 1;
+        if self.value != 0 {
+            return true;
+        }
+        if version.is_deleted() {
+            return version.block >= n;
+        }
+        !version.same(Version::ABSENT)
     }
-    k
 }
 
-// 12 and 13: the first fault of a state under the number n.
-pub fn state_fault(blocks: &[u32], places: &[u16], values: &[i64], n: u32) -> Finding
-    ensures { let s = state_of blocks.now places.now values.now in
-        finding result ≡ first (state_rows s n) }
-{
-    if lengths_wrong(blocks, places, values) {
-        return refusals::found(refusals::STATE_LENGTH, 0);
+impl State<'_> {
+    // How many keys there are.
+    pub fn keys(self) -> usize
+        ensures { result ≡ keys (lent self.entry) }
+    {
+        self.blocks.len()
     }
-    let key = first_wrong(blocks, places, values, n);
-    if key < blocks.len() {
-        return refusals::found(refusals::STATE_ENTRY, key as u32);
+
+    // Whether the three lists are unequal, empty or too long.
+    pub fn has_wrong_lengths(self) -> bool
+        ensures { result ≡ wrong_lengths (lent self.entry) }
+    {
+        let keys = self.blocks.len();
+        if self.places.len() != keys {
+            return true;
+        }
+        if self.values.len() != keys {
+            return true;
+        }
+        if keys == 0 {
+            return true;
+        }
+        keys > layout::MOST_KEYS
     }
-    Finding::Clear
+
+    // The version at a key.
+    pub fn version(self, key: usize) -> Version
+        requires { (key < length self.blocks.now) × (key < length self.places.now) }
+        ensures { result ≡ versions (lent self.entry) key }
+    {
+        Version::at(self.blocks[key], self.places[key])
+    }
+
+    // The entry at a key.
+    pub fn entry(self, key: usize) -> Entry
+        requires { (key < length self.blocks.now) × (key < length self.places.now) × (key < length self.values.now) }
+        ensures { result ≡ entry (lent self.entry) key }
+    {
+        Entry {
+            version: self.version(key),
+            value: self.values[key],
+        }
+    }
+
+    // Whether each key has a version that a present entry may have. None ends the loop, so it is vector code.
+    fn is_present_throughout(self, n: u32) -> bool
+        requires { Level (lent self) }
+        ensures { result
+            ≡ not (some_in (λ k. not (present_under n (versions (lent self.entry) k))) 0
+            (keys (lent self.entry))) }
+    {
+        let mut other = false;
+        for k in 0..self.blocks.len() {
+            other = other | !self.version(k).is_present_under(n);
+        }
+        !other
+    }
+
+    // The lowest key whose entry is wrong. Where all are present there is none.
+    fn first_wrong(self, n: u32) -> Option<usize>
+        requires { Level (lent self) }
+        ensures { result
+            ≡ found_in (λ k. wrong_entry n (entry (lent self.entry) k)) 0 (keys (lent self.entry)) }
+    {
+        if self.is_present_throughout(n) {
+            return None;
+        }
+        for k in 0..self.blocks.len() {
+            if self.entry(k).is_wrong(n) {
+                return Some(k);
+            }
+        }
+        None
+    }
+
+    // 12 and 13: the first fault under the number n.
+    pub fn fault(self, n: u32) -> Result<(), Refusal>
+        ensures { finding result ≡ first (state_rows (lent self.entry) n) }
+    {
+        if self.has_wrong_lengths() {
+            return Err(Reason::StateLength.at(0));
+        }
+        if let Some(key) = self.first_wrong(n) {
+            return Err(Reason::StateEntry.at(key as u32));
+        }
+        Ok(())
+    }
 }
 
-// Stores an entry at a key.
-pub(crate) fn store(
-    blocks: &mut [u32],
-    places: &mut [u16],
-    values: &mut [i64],
-    key: usize,
-    e: Entry,
-)
-    requires { (key < length blocks.old) × (key < length places.old) × (key < length values.old) }
-    ensures { let s = state_of blocks.old places.old values.old in
-        let left = state_of blocks.new places.new values.new in
-        left ≡ store s key e }
-{
-    let version = e.version;
-    let value = e.value;
-    blocks[key] = version.block;
-    places[key] = version.place;
-    values[key] = value;
+impl StateMut<'_> {
+    // The same lists, to be read.
+    pub fn lent(&self) -> State<'_>
+        ensures { lent result ≡ held self.now }
+    {
+        State {
+            blocks: &*self.blocks,
+            places: &*self.places,
+            values: &*self.values,
+        }
+    }
+
+    // Stores an entry at a key.
+    pub(crate) fn store(&mut self, key: usize, e: Entry)
+        requires level { Level (held self.old) }
+        requires key_in_bounds { key < keys (held self.old) }
+        ensures same_lists { SameLists self.old self.new }
+        ensures left { held self.new ≡ store (held self.old) key e }
+    {
+        self.blocks[key] = e.version.block;
+        self.places[key] = e.version.place;
+        let value = e.value;
+        self.values[key] = value;
+    }
 }

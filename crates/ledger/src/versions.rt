@@ -38,7 +38,7 @@ impl Version {
     pub fn same(self, other: Version) -> bool
         ensures { result ≡ same self other }
     {
-        self.block == other.block && self.place == other.place
+        self == other
     }
 
     // Whether the place is one of 0 to 63.

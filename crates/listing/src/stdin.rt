@@ -2,36 +2,32 @@
 ghost use Rattle.std.specs.Prelude.{length};
 ghost use Rattle.report.specs.Program.{Within};
 
-use report::program::Input;
+use report::program::InputError;
 use std::io::Read;
 
 // What is read where the buffer is full: one read more tells.
-fn when_full(input: &mut impl Read, count: usize) -> Input
+fn when_full(input: &mut impl Read, count: usize) -> Result<usize, InputError>
     ensures { Within result count }
 {
-    let mut one = [0u8; 1];
-    let Ok(got) = input.read(&mut one) else {
-        return Input::Unread;
-    };
-    if got > 0 {
-        return Input::TooLong;
+    match input.read(&mut [0u8; 1]) {
+        Ok(0) => Ok(count),
+        Ok(_) => Err(InputError::TooLong),
+        Err(_) => Err(InputError::Failed),
     }
-    Input::Bytes { count }
 }
 
 // Reads an input, standard input that is, into a buffer, and says how many bytes there are.
-pub fn read_input(input: &mut impl Read, buffer: &mut [u8]) -> Input
+pub fn read_input(input: &mut impl Read, buffer: &mut [u8]) -> Result<usize, InputError>
     ensures { Within result (length buffer.new) }
 {
     let mut at = 0;
+    // No `for`: each read moves on by the bytes that it gives.
     while at < buffer.len() {
-        let Ok(count) = input.read(&mut buffer[at..]) else {
-            return Input::Unread;
-        };
-        if count == 0 {
-            return Input::Bytes { count: at };
+        match input.read(&mut buffer[at..]) {
+            Ok(0) => return Ok(at),
+            Ok(count) => at += count,
+            Err(_) => return Err(InputError::Failed),
         }
-        at += count;
     }
     when_full(input, at)
 }

@@ -1,6 +1,7 @@
 pub mod Filled
 pub mod Loops
 pub mod Membership
+pub mod Positions
 pub mod Searches
 pub mod Stores
 pub mod Tables

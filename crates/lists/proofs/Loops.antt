@@ -2,11 +2,12 @@
 use mathlib.Core.Path.{◌≡◌, refl, sym, ap, ap₂, ◌∙◌}
 use mathlib.Core.Bool.{Bool, true, false, ◌||◌}
 use Prim.Native.Nat.{ℕ, ◌+◌, ◌≤◌, ◌<◌}
-use native.Mathlib.Nat.{le_antisymm}
+use native.Mathlib.Nat.{le_refl, le_antisymm}
 use native.Mathlib.Numerals.{add-one}
 use native.Mathlib.Omega.{arith}
-use Rattle.lists.specs.Search.{first_in, some_in}
-use Rattle.lists.proofs.Searches.{hit, miss, done, none_at, some-last}
+use Rattle.std.specs.Prelude.{Some, None}
+use Rattle.lists.specs.Search.{first_in, some_in, found_in}
+use Rattle.lists.proofs.Searches.{hit, miss, done, some, none, none_at, some-last}
 
 -- the search from `from` on is still to be decided at i
 pub record Unfound (bad : ℕ → Bool) (from to i : ℕ) : Type 0 where
@@ -28,6 +29,13 @@ module _ {bad : ℕ → Bool} {from to i : ℕ} (u : Unfound bad from to i) wher
   -- it gives the end where nothing is left
   pub ends : to ≤ i → to ≡ first_in bad from to
   ends h = sym (u.same ∙ rw (le_antisymm u.within h) (done bad to))
+
+  -- a loop that gives the index where the test holds, and none where nothing is left
+  pub gives-found : i < to → bad i ≡ true → Some i ≡ found_in bad from to
+  gives-found l e = let f = found l e in rw (some bad from to i f l) (ap Some f)
+
+  pub gives-none : to ≤ i → None ≡ found_in bad from to
+  gives-none h = rw (none bad from to to (ends h) (le_refl to))
 
 -- ---- what a loop keeps that joins a test over all its indexes, and that none of them ends
 

@@ -8,9 +8,10 @@ use native.Mathlib.Numerals.{add-one}
 use native.Mathlib.Omega.{arith}
 use lib.ListN.{length, get_or}
 use lib.Dec.{ltb, leb-suc-suc}
-use borrow.Author.Tests.{lt-ltb, le-ltb, ltb-false}
+use borrow.Author.Tests.{lt-ltb, le-ltb, ltb-true, ltb-false}
 use Rattle.lists.specs.Members.{any, all}
-use Rattle.lists.specs.Search.{seek, first_in, some_in}
+use Rattle.std.specs.Prelude.{Some, None}
+use Rattle.lists.specs.Search.{seek, first_in, some_in, found_in}
 
 -- what a searching loop needs: at a hit it stops, at a miss it goes on, at the end it gives the end
 module _ (bad : ℕ → Bool) where
@@ -57,6 +58,22 @@ module _ (bad : ℕ → Bool) (from to x : ℕ) (found : x ≡ first_in bad from
 
   pub none : to ≤ x → some_in bad from to ≡ false
   none h = le-ltb _ _ (rw found at h)
+
+-- what it gave where there is an index, and where there is none
+module _ (bad : ℕ → Bool) (from to : ℕ) where
+  pub given_some : (i : ℕ) → Some i ≡ found_in bad from to → (i ≡ first_in bad from to) × (i < to)
+  given_some i e = go (some_in bad from to) refl e
+    where
+      go : (b : Bool) → some_in bad from to ≡ b → Some i ≡ cond b (Some (first_in bad from to)) None → (i ≡ first_in bad from to) × (i < to)
+      go true s q = let f : i ≡ first_in bad from to = cc in (f, omega (arith, ltb-true (first_in bad from to) to s))
+      go false s q = absurd (let z : ◌≡◌ {A = ℕ} 0 1 = cc in omega arith)
+
+  pub given_none : None ≡ found_in bad from to → some_in bad from to ≡ false
+  given_none e = go (some_in bad from to) refl e
+    where
+      go : (b : Bool) → some_in bad from to ≡ b → None ≡ cond b (Some (first_in bad from to)) None → some_in bad from to ≡ false
+      go true s q = absurd (let z : ◌≡◌ {A = ℕ} 0 1 = cc in omega arith)
+      go false s q = s
 
 -- two tests that agree find the same
 pub seek-same : (f g : ℕ → Bool) (i k : ℕ) → ((j : ℕ) → j < i + k → f j ≡ g j) → seek f i k ≡ seek g i k

@@ -3,15 +3,15 @@ use mathlib.Core.Path.{◌≡◌, sym, ap, ◌∙◌}
 use mathlib.Core.List.{List, [], ◌∷◌}
 use Prim.Native.Nat.{ℕ}
 use Rattle.refusals.specs.declared.Refusal.{Refusal}
-use Rattle.refusals.specs.Outcome.{gives, refuses}
+use Rattle.refusals.specs.Outcome.{gives, refuses, number_of, outcome}
 use Rattle.refusals.specs.Fault.{clear}
 use Rattle.refusals.proofs.Rows.{judged-gives}
-use Rattle.ledger.specs.declared.PageCheck.{PageCheck}
-use Rattle.ledger.specs.declared.PageCheck.TheVariants.{Good, Bad}
+use Rattle.std.specs.Prelude.{Result, Ok, Err}
+use Rattle.ledger.specs.declared.Counts.{Counts}
 use Rattle.ledger.specs.Tx.{padded}
 use Rattle.ledger.specs.Page.{page_tx, page_fault}
 use Rattle.ledger.specs.Inner.{Counted}
-use Rattle.ledger.specs.Services.{Taken, check_page, read_page, checked}
+use Rattle.ledger.specs.Services.{Taken, taken, check_page, read_page}
 use Rattle.ledger.proofs.Faults.{taken_none, read_taken}
 use Rattle.ledger.proofs.Pages.{good-counted}
 use Rattle.node.specs.Word.{upper}
@@ -46,31 +46,29 @@ left a y =
       | refuses n q ↦ record { word = upper n q; arrays = a }
     ]
 
-module _ (x : PageCheck) (p : List ℕ) (h : checked x ≡ check_page p) where
-  module _ (r w : ℕ) (e : x ≡ Good r w) where
+module _ (x : Result Counts Refusal) (p : List ℕ) (h : outcome x ≡ check_page p) where
+  module _ (n : Counts) (e : x ≡ Ok n) where
     none : page_fault p ≡ clear
-    none = taken_none p _ (ap checked (sym e) ∙ h)
+    none = taken_none p _ (ap outcome (sym e) ∙ h)
 
     pub page-counted : Counted p
     page-counted = good-counted p none
 
     -- the head by the counts that the check gives
-    pub page-head : (ticket : ℕ) → ticket ≡ (page_tx p).ticket → r ∷ w ∷ ticket ∷ [] ≡ (arrays_on p).head
+    pub page-head : (ticket : ℕ) → ticket ≡ (page_tx p).ticket → n.reads ∷ n.writes ∷ ticket ∷ [] ≡ (arrays_on p).head
     unfolding arrays_of padded check_page
     page-head ticket t =
-        let c = (judged-gives (page_fault p) _ _ (ap checked (sym e) ∙ h)).1 in
+        let c = (judged-gives (page_fault p) _ _ (ap outcome (sym e) ∙ h)).1 in
         λ i. (c i).reads ∷ (c i).writes ∷ t i ∷ []
 
     pub page-good : (a b : Arrays) → Laid p b → record { word = 0; arrays = b } ≡ page_left p a
     unfolding page_left
     page-good a b l =
         ap (λ (b : Arrays). record { word = 0; arrays = b }) (laid p b l)
-        ∙ ap (λ (y : PageCheck). left a (record { answer = checked y; transaction = padded (page_tx p) })) (sym e)
-        ∙ ap (λ o. left a (record { answer = o; transaction = padded (page_tx p) })) h
         ∙ ap (left a) (read_taken p none)
 
-  pub page_bad : (a : Arrays) (f : Refusal) (w : ℕ) → w ≡ upper f.number f.place → x ≡ Bad f → record { word = w; arrays = a } ≡ page_left p a
+  pub page_bad : (a : Arrays) (f : Refusal) (w : ℕ) → w ≡ upper (number_of f.reason) f.place → x ≡ Err f → record { word = w; arrays = a } ≡ page_left p a
   unfolding page_left read_page
   page_bad a f w q e =
       ap (λ (y : ℕ). record { word = y; arrays = a }) q
-      ∙ ap (λ o. left a (record { answer = o; transaction = (read_page p).transaction })) (ap checked (sym e) ∙ h)
+      ∙ ap (λ o. left a (record { answer = o; transaction = (read_page p).transaction })) (ap outcome (sym e) ∙ h)

@@ -1,52 +1,44 @@
-// A transaction's reads and writes in arrays of 32, one for each field.
+// A transaction's reads and writes in arrays of 32, one for each field, as C lends them. A function for reads and one for
+// writes: their arrays differ in type and in what they hold, and a trait over both would be longer than the second loop.
 ghost use Rattle.std.specs.Prelude.{◌≡◌, ℕ, ◌+◌, ◌*◌, ◌≤◌, ◌<◌, length, replicate, pos};
 ghost use Rattle.std.proofs.lemmas.List.Edits.{sets};
 ghost use Rattle.lists.specs.Tables.{flat};
 ghost use Rattle.ledger.specs.Tx.{ReadFits, WriteFits};
 ghost use Rattle.ledger.specs.Page.{read_bytes, write_bytes};
-ghost use Rattle.ledger.specs.Inner.{Counted};
 ghost use Rattle.node.specs.Lent.{arrays_on, read_in, write_in};
 
 use ledger::page::{content, fill};
-use ledger::{Read, Version, Write, layout};
+use ledger::{Page, Read, Version, Write, layout};
 
 // Fills three arrays of zeros with the reads of a page.
-pub fn fill_reads(page: &[u8], keys: &mut [u16], places: &mut [u16], blocks: &mut [u32])
-    requires counted { Counted page.now }
-    requires keys_value { (keys.old ≡ replicate 32 0) × (places.old ≡ replicate 32 0) × (blocks.old ≡ replicate 32 0) }
-    ensures keys_after { keys.new ≡ (arrays_on page.now).read_keys }
-    ensures places_after { places.new ≡ (arrays_on page.now).read_places }
-    ensures blocks_after { blocks.new ≡ (arrays_on page.now).read_blocks }
+pub fn fill_reads(page: Page<'_>, keys: &mut [u16], places: &mut [u16], blocks: &mut [u32])
+    requires { (keys.old ≡ replicate 32 0) × (places.old ≡ replicate 32 0) × (blocks.old ≡ replicate 32 0) }
+    ensures keys_after { keys.new ≡ (arrays_on page.entry.bytes.now).read_keys }
+    ensures places_after { places.new ≡ (arrays_on page.entry.bytes.now).read_places }
+    ensures blocks_after { blocks.new ≡ (arrays_on page.entry.bytes.now).read_blocks }
 {
-    let count = content::reads(page);
-    let mut i = 0;
-    while i < count {
-        let x = content::read(page, i);
+    for i in 0..page.reads() {
+        let x = page.read(i);
         keys[i] = x.key;
         places[i] = x.version.place;
         blocks[i] = x.version.block;
-        i += 1;
     }
 }
 
 // Fills three arrays of zeros with the writes of a page.
-pub fn fill_writes(page: &[u8], keys: &mut [u16], kinds: &mut [u16], values: &mut [i64])
-    requires counted { Counted page.now }
-    requires keys_value { (keys.old ≡ replicate 32 0) × (kinds.old ≡ replicate 32 0) × (values.old ≡ replicate 32 (pos 0)) }
-    ensures keys_after { keys.new ≡ (arrays_on page.now).write_keys }
-    ensures kinds_after { kinds.new ≡ (arrays_on page.now).write_kinds }
-    ensures values_after { values.new ≡ (arrays_on page.now).write_values }
+pub fn fill_writes(page: Page<'_>, keys: &mut [u16], kinds: &mut [u16], values: &mut [i64])
+    requires { (keys.old ≡ replicate 32 0) × (kinds.old ≡ replicate 32 0) × (values.old ≡ replicate 32 (pos 0)) }
+    ensures keys_after { keys.new ≡ (arrays_on page.entry.bytes.now).write_keys }
+    ensures kinds_after { kinds.new ≡ (arrays_on page.entry.bytes.now).write_kinds }
+    ensures values_after { values.new ≡ (arrays_on page.entry.bytes.now).write_values }
 {
-    let count = content::writes(page);
-    let from = layout::writes_at(content::reads(page));
-    let mut i = 0;
-    while i < count {
-        let x = content::write_at(page, from + layout::WRITE * i);
+    let from = layout::writes_at(page.reads());
+    for i in 0..page.writes() {
+        let x = content::write_at(page.bytes, from + layout::WRITE * i);
         keys[i] = x.key;
         kinds[i] = x.kind;
         let value = x.value;
         values[i] = value;
-        i += 1;
     }
 }
 
@@ -66,8 +58,7 @@ pub fn lay_reads(p: &mut [u8], keys: &[u16], places: &[u16], blocks: &[u32], cou
         (flat count (λ i. read_bytes (read_in keys.now places.now blocks.now i))) }
     ensures by_index { (i : ℕ) → i < count → ReadFits (read_in keys.now places.now blocks.now i) }
 {
-    let mut i = 0;
-    while i < count {
+    for i in 0..count {
         let x = Read {
             key: keys[i],
             version: Version {
@@ -76,7 +67,6 @@ pub fn lay_reads(p: &mut [u8], keys: &[u16], places: &[u16], blocks: &[u32], cou
             },
         };
         fill::put_read(p, layout::HEAD + layout::READ * i, x);
-        i += 1;
     }
 }
 
@@ -96,14 +86,12 @@ pub fn lay_writes(
         (flat count (λ i. write_bytes (write_in keys.now kinds.now values.now i))) }
     ensures by_index { (i : ℕ) → i < count → WriteFits (write_in keys.now kinds.now values.now i) }
 {
-    let mut i = 0;
-    while i < count {
+    for i in 0..count {
         let x = Write {
             key: keys[i],
             kind: kinds[i],
             value: values[i],
         };
         fill::put_write(p, at + layout::WRITE * i, x);
-        i += 1;
     }
 }

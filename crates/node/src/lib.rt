@@ -9,14 +9,13 @@ ghost use Rattle.ledger.specs.State.{state_of};
 ghost use Rattle.ledger.specs.Commit.{commit_batch};
 ghost use Rattle.planning.specs.Plan.{plan_batch};
 ghost use Rattle.planning.specs.Joined.{plan_and_commit};
-ghost use Rattle.refusals.specs.Outcome.{outcome};
+ghost use Rattle.refusals.specs.Outcome.{number_of, outcome};
 ghost use Rattle.node.specs.Word.{upper, word};
 ghost use Rattle.node.specs.Lent.{lent_tx, page_left, text_left, written_left, put_left, commit_left, plan_left, joined_left};
 
-use ledger::page::{check, content, counts, fill, write};
-use ledger::{PageCheck, layout};
-use refusals::{Answer, Finding, Refusal};
-use tonnage::Reading;
+use ledger::page::{check, counts, fill, write};
+use ledger::{Page, State, StateMut, layout};
+use refusals::Refusal;
 
 mod arrays;
 
@@ -25,18 +24,18 @@ const NUMBER: u64 = 4294967296;
 
 // A refusal as a word: the number above, the place below.
 fn refused(r: Refusal) -> u64
-    ensures { result ≡ upper r.number r.place }
+    ensures { result ≡ upper (number_of r.reason) r.place }
 {
-    (r.number as u64) * NUMBER + r.place as u64
+    (r.reason.number() as u64) * NUMBER + r.place as u64
 }
 
 // An answer as a word.
-fn answered(a: Answer) -> u64
+fn answered(a: Result<usize, Refusal>) -> u64
     ensures { result ≡ word (outcome a) }
 {
     match a {
-        Answer::Count { count } => count as u64,
-        Answer::Refused { refusal } => refused(refusal),
+        Ok(count) => count as u64,
+        Err(refusal) => refused(refusal),
     }
 }
 
@@ -56,7 +55,12 @@ pub fn nevolisca_plan(
         ≡ plan_left (plan_batch batch.now s n verdicts.old order.old
         out.old) }
 {
-    answered(planner::plan::plan_batch(batch, blocks, places, values, n, verdicts, order, out))
+    let state = State {
+        blocks,
+        places,
+        values,
+    };
+    answered(planner::plan::plan_batch(batch, state, n, verdicts, order, out))
 }
 
 // Commits a batch: the state and the verdicts are filled.
@@ -73,7 +77,12 @@ pub fn nevolisca_commit(
         record { word = result; state = left; verdicts = verdicts.new }
         ≡ commit_left (commit_batch batch.now s n verdicts.old) }
 {
-    answered(ledger::commit::commit_batch(batch, blocks, places, values, n, verdicts))
+    let mut state = StateMut {
+        blocks,
+        places,
+        values,
+    };
+    answered(ledger::commit::commit_batch(batch, &mut state, n, verdicts))
 }
 
 // Plans a batch and commits the kept pages: the state, the verdicts and the order are filled.
@@ -91,7 +100,12 @@ pub fn nevolisca_plan_and_commit(
         record { word = result; state = left; verdicts = verdicts.new; order = order.new }
         ≡ joined_left (plan_and_commit batch.now s n verdicts.old order.old) }
 {
-    answered(planner::joined::plan_and_commit(batch, blocks, places, values, n, verdicts, order))
+    let mut state = StateMut {
+        blocks,
+        places,
+        values,
+    };
+    answered(planner::joined::plan_and_commit(batch, &mut state, n, verdicts, order))
 }
 
 // Reads a tonnage text.
@@ -99,11 +113,11 @@ pub fn nevolisca_read_tonnage(text: &[u8], kilograms: &mut i64) -> u64
     ensures { record { word = result; kilograms = kilograms.new } ≡ text_left text.now kilograms.old }
 {
     match tonnage::text::read_tonnage(text) {
-        Reading::Kilograms { value } => {
+        Ok(value) => {
             *kilograms = value;
             0
         }
-        Reading::Unread { refusal } => refused(refusal),
+        Err(refusal) => refused(refusal),
     }
 }
 
@@ -148,8 +162,9 @@ pub fn nevolisca_read_page(
         }) }
 {
     match check::check_page(page) {
-        PageCheck::Good { reads, writes } => {
-            *head = [reads, writes, content::ticket(page)];
+        Ok(counts) => {
+            let page = Page { bytes: page };
+            *head = [counts.reads, counts.writes, page.ticket()];
             *read_keys = [0u16; layout::MOST_ENTRIES];
             *read_places = [0u16; layout::MOST_ENTRIES];
             *read_blocks = [0u32; layout::MOST_ENTRIES];
@@ -160,7 +175,7 @@ pub fn nevolisca_read_page(
             arrays::fill_writes(page, write_keys, write_kinds, write_values);
             0
         }
-        PageCheck::Bad { refusal } => refused(refusal),
+        Err(refusal) => refused(refusal),
     }
 }
 
@@ -190,8 +205,7 @@ pub fn nevolisca_write_page(
 {
     let r = arrays::count(head[0]);
     let w = arrays::count(head[1]);
-    let found = counts::count_fault(r, w);
-    if let Finding::Found { refusal } = found {
+    if let Err(refusal) = counts::count_fault(r, w) {
         return refused(refusal);
     }
     let mut laid = [0u8; layout::PAGE];
@@ -205,5 +219,9 @@ pub fn nevolisca_write_page(
         write_values,
         w,
     );
-    answered(write::write_laid(batch, index, &laid))
+    let page = Page { bytes: &laid };
+    match write::write_laid(batch, index, page) {
+        Ok(()) => 0,
+        Err(refusal) => refused(refusal),
+    }
 }

@@ -1,4 +1,5 @@
-// The static library for C and other languages: each export is the function of `node` that has its name, with its promise.
+// The static library for C and other languages: each export is the function of `node` that has its name, with its promise. C's
+// names stand in this crate alone, so that `node` stays a library that others can use.
 #![tactic(auto)]
 
 ghost use Rattle.std.specs.Prelude.{◌≡◌};

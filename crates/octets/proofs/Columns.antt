@@ -1,15 +1,14 @@
 -- Laws of the sum by columns, and what the loops that take it keep. Assumes nothing.
-use mathlib.Core.Path.{◌≡◌, refl, ap, ◌∙◌}
+use mathlib.Core.Path.{◌≡◌, refl, ap}
 use mathlib.Core.List.{List}
 use Prim.Native.Nat.{ℕ, zero, suc, ◌+◌, ◌*◌, ◌-◌, ◌≤◌, ◌<◌}
 use native.Mathlib.Nat.{mul-add, add-mul, add-suc, add-zero, mul-zero, mul-le-mul, le-pred_of_lt}
 use native.Mathlib.Numerals.{add-one}
 use native.Mathlib.Omega.{arith}
-use lib.ListN.{length, get_or, set, length-set, take, drop, length-take, length-drop, replicate, get_or-replicate}
-use lib.Seq.{get_or-set_other, get_or-take, get_or-drop}
+use lib.ListN.{length, get_or, take, drop, replicate, get_or-replicate}
 use Rattle.octets.specs.Bytes.{weighed, Small}
-use Rattle.octets.specs.Columns.{by_columns, Lanes, Room, Added}
-use Rattle.lists.proofs.Stores.{front_more}
+use Rattle.octets.specs.Columns.{by_columns, Added}
+use Rattle.octets.proofs.Numbers.{byte_at}
 
 -- the sum of the first n elements
 unfoldable pub summed : List ℕ → ℕ → ℕ
@@ -50,7 +49,6 @@ weighed-row p row b (suc n) h =
 
 -- a row half added: the columns before c have it, the others stand as they did
 pub record Adding (row sums₀ runs₀ sums runs : List ℕ) (c : ℕ) : Type 0 where
-  pub in_row : c ≤ 48
   pub sums_long : length sums ≡ 48
   pub runs_long : length runs ≡ 48
   pub sums_done : (k : ℕ) → k < c → get_or sums k 0 ≡ get_or sums₀ k 0 + get_or row k 0
@@ -58,56 +56,12 @@ pub record Adding (row sums₀ runs₀ sums runs : List ℕ) (c : ℕ) : Type 0 
   pub sums_left : (k : ℕ) → c ≤ k → get_or sums k 0 ≡ get_or sums₀ k 0
   pub runs_left : (k : ℕ) → c ≤ k → get_or runs k 0 ≡ get_or runs₀ k 0
 
-pub adding_begins : (row sums runs : List ℕ) → Room row sums runs → Adding row sums runs sums runs 0
-adding_begins row sums runs room = record {
-  in_row = omega arith;
-  sums_long = room.sums_long;
-  runs_long = room.runs_long;
-  sums_done = λ k h. absurd (omega arith);
-  runs_done = λ k h. absurd (omega arith);
-  sums_left = λ k h. refl;
-  runs_left = λ k h. refl;
-}
-
-module _ (row sums₀ runs₀ sums runs : List ℕ) (c : ℕ) (a : Adding row sums₀ runs₀ sums runs c) where
-  -- the sums of a turn fit
-  pub runs_fits : Room row sums₀ runs₀ → c < 48 → get_or runs c 0 + get_or sums c 0 < 65536
-  runs_fits room h = omega (arith, room.runs_fit c h, a.sums_left c (omega arith), a.runs_left c (omega arith))
-
-  pub sums_fits : Room row sums₀ runs₀ → c < 48 → get_or sums c 0 + 255 < 65536
-  sums_fits room h = omega (arith, room.sums_fit c h, a.sums_left c (omega arith))
-
-  pub adding_turns : c < 48 → Adding row sums₀ runs₀ (set sums c (get_or sums c 0 + get_or row c 0)) (set runs c (get_or runs c 0 + get_or sums c 0)) (c + 1)
-  adding_turns h =
-      let s = a.sums_left c (omega arith) in
-      let r = a.runs_left c (omega arith) in
-      record {
-        in_row = omega arith;
-        sums_long = length-set sums c _ ∙ a.sums_long;
-        runs_long = length-set runs c _ ∙ a.runs_long;
-        sums_done = front_more (λ k. get_or sums₀ k 0 + get_or row k 0) sums c _ (omega (arith, a.sums_long)) (omega arith) a.sums_done;
-        runs_done = front_more (λ k. get_or runs₀ k 0 + get_or sums₀ k 0) runs c _ (omega (arith, a.runs_long)) (omega arith) a.runs_done;
-        sums_left = λ k l. get_or-set_other sums c k _ 0 (λ i. absurd (omega arith)) ∙ a.sums_left k (omega arith);
-        runs_left = λ k l. get_or-set_other runs c k _ 0 (λ i. absurd (omega arith)) ∙ a.runs_left k (omega arith);
-      }
-
-  pub adding_ends : 48 ≤ c → Added row sums₀ runs₀ sums runs
-  adding_ends h = record {
-    sums_long = a.sums_long;
-    runs_long = a.runs_long;
-    sums_more = λ k l. a.sums_done k (omega arith);
-    runs_more = λ k l. a.runs_done k (omega arith);
-  }
-
 -- the 48 bytes from b on, as the code cuts them out
 abbrev pub row_of : List ℕ → ℕ → List ℕ
 row_of p b = take (b + 48 - b) (drop b p)
 
-row-length : (p : List ℕ) (b : ℕ) → b + 48 ≤ length p → length (row_of p b) ≡ 48
-row-length p b h = simp (length-take, length-drop) (omega arith)
-
 row_at : (p : List ℕ) (b c : ℕ) → c < 48 → get_or (row_of p b) c 0 ≡ get_or p (b + c) 0
-row_at p b c h = get_or-take (b + 48 - b) (drop b p) c 0 (omega arith) ∙ get_or-drop b p c 0
+row_at p b c h = byte_at p b (b + 48 - b) c (omega arith)
 
 weighed_none : (p : List ℕ) → weighed p 0 ≡ 0
 unfolding weighed
@@ -136,12 +90,6 @@ columned_begins p m h = record {
 }
 
 module _ (p : List ℕ) (m : ℕ) (sums runs : List ℕ) (r : ℕ) (k : Columned p m sums runs r) where
-  pub columned_lanes : Lanes sums runs
-  columned_lanes = record {
-    sums_lane = λ c h. omega (arith, k.sums_low c h);
-    runs_lane = λ c h. omega (arith, k.runs_low c h);
-  }
-
   pub columned_ends : r ≤ 0 → by_columns sums runs 48 ≡ weighed p (m * 48)
   columned_ends h =
       let z : r ≡ 0 = omega arith in
@@ -150,15 +98,6 @@ module _ (p : List ℕ) (m : ℕ) (sums runs : List ℕ) (r : ℕ) (k : Columned
 
   -- the row before r
   module _ (some : 0 < r) where
-    pub columned_room : m * 48 ≤ length p → Room (row_of p ((r - 1) * 48)) sums runs
-    columned_room h = record {
-      row_long = row-length p ((r - 1) * 48) (omega (arith, k.in_rows));
-      sums_long = k.sums_long;
-      runs_long = k.runs_long;
-      sums_fit = λ c l. omega (arith, k.sums_low c l, k.in_rows, k.few);
-      runs_fit = λ c l. omega (arith, k.sums_low c l, k.runs_low c l, k.in_rows, k.few);
-    }
-
     pub columned_turns : (sums' runs' : List ℕ) → Small p → Added (row_of p ((r - 1) * 48)) sums runs sums' runs' → Columned p m sums' runs' (r - 1)
     columned_turns sums' runs' small a =
         let b = (r - 1) * 48 in

@@ -36,12 +36,12 @@ joined_begins p from to h = record {
 }
 
 module _ (p : List ℕ) (from to all i : ℕ) (j : Joined p from to all i) where
-  pub joined_turns : i < to → Joined p from to (bit_or all (get_or p i 0)) (i + 1)
-  joined_turns l = record {
+  pub joined_turns : i < to → (byte next : ℕ) → byte ≡ get_or p i 0 → next ≡ i + 1 → Joined p from to (bit_or all byte) next
+  joined_turns l byte next is up = rw (is, up) (record {
     in_range = omega arith;
     clear = λ e. let n = or_none all (get_or p i 0) e in passes (j.clear n.0) l (simp (eq-eqb _ _ n.1));
     met = λ f. go f (eqb all 0) refl;
-  }
+  })
     where
       go : (bit_or all (get_or p i 0) ≡ 0 → ⊥) → (b : Bool) → eqb all 0 ≡ b → some_in (set? p) from to ≡ true
       go f true e =

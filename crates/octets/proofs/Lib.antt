@@ -1,7 +1,6 @@
 pub mod Numbers
 pub mod Joined
 pub mod Columns
-pub mod Signed
 pub mod Stored
 pub mod Fields
 pub mod Parts

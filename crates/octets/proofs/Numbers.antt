@@ -1,14 +1,16 @@
 -- Laws of numbers in bytes and of the weighed sum. Assumes nothing.
-use mathlib.Core.Path.{◌≡◌, sym, ap, ◌∙◌}
+use mathlib.Core.Path.{◌≡◌, sym, ap, ap₂, ◌∙◌}
 use mathlib.Core.Bool.{false}
 use mathlib.Core.List.{List}
 use Prim.Native.Nat.{ℕ, zero, suc, ◌+◌, ◌-◌, ◌*◌, ◌^◌, ◌≤◌, ◌<◌}
 use native.Mathlib.Nat.{zero-add, add-zero, suc-add, add-suc, pow-succ', mul_assoc, mul-zero, mul-le-mul, le-pred_of_lt, le_refl}
 use native.Mathlib.Numerals.{add-one}
 use native.Mathlib.Omega.{arith}
-use lib.ListN.{get_or}
+use lib.ListN.{get_or, take, drop}
+use lib.Seq.{get_or-take, get_or-drop}
 use lib.Dec.{eqb}
 use borrow.Author.Tests.{eqb-true, not-false}
+use Rattle.std.specs.Int.{sum_through, byte_worth}
 use Rattle.lists.specs.Search.{some_in}
 use Rattle.lists.proofs.Searches.{missed_from}
 use Rattle.octets.specs.Bytes.{field, weighed, set?, Small}
@@ -20,6 +22,21 @@ field-add p at zero n = simp (zero-add, add-zero) (omega arith)
 field-add p at (suc m) n =
     simp (suc-add, field-add p (suc at) m n, add-suc, pow-succ')
     (omega (arith, mul_assoc 256 (256 ^ m) (field p (suc (at + m)) n)))
+
+-- a byte of a part
+pub byte_at : (p : List ℕ) (at m i : ℕ) → i < m → get_or (take m (drop at p)) i 0 ≡ get_or p (at + i) 0
+byte_at p at m i h = get_or-take m (drop at p) i 0 h ∙ get_or-drop at p i 0
+
+-- a field is what the library makes of its bytes
+field-one : (p : List ℕ) (at : ℕ) → get_or p at 0 ≡ field p at 1
+unfolding field
+field-one p at = omega arith
+
+pub number-field : (p : List ℕ) (at m n : ℕ) → n < m → sum_through (λ i. byte_worth i (get_or (take m (drop at p)) i 0)) n ≡ field p at (suc n)
+number-field p at m zero h = byte_at p at m 0 h ∙ rw add-zero (field-one p at)
+number-field p at m (suc n) h =
+    ap₂ (λ a b. a + b * 256 ^ suc n) (number-field p at m n (omega arith)) (byte_at p at m (suc n) h ∙ field-one p (at + suc n))
+    ∙ omega (arith, ap (field p at) (add-one (suc n)), field-add p at (suc n) 1)
 
 -- a byte that is not set is zero
 set_none : (p : List ℕ) (i : ℕ) → set? p i ≡ false → get_or p i 0 ≡ 0

@@ -1,12 +1,14 @@
 -- Numbers stored as bytes. Assumes nothing.
 use mathlib.Core.Path.{◌≡◌, refl, sym, ap, ◌∙◌}
-use mathlib.Core.List.{List, ◌∷◌, ◌++◌}
-use Prim.Native.Nat.{ℕ, zero, suc, ◌+◌, ◌-◌, ◌/◌, ◌%◌, ◌<◌}
-use native.Mathlib.Nat.{add-suc}
-use native.Mathlib.Numerals.{add-one}
+use mathlib.Core.List.{List, ◌∷◌, ◌++◌, append_assoc, append-nil}
+use Prim.Native.Nat.{ℕ, zero, suc, ◌+◌, ◌-◌, ◌/◌, ◌%◌, ◌≤◌, ◌<◌}
 use native.Mathlib.Omega.{arith}
-use lib.ListN.{length, set, replicate, length-append}
+use lib.ListN.{length, set, take, replicate, length-append}
 use lib.Seq.{sets}
+use borrow.Rule.Slice.PartMut.{put_mid}
+use Rattle.std.proofs.lemmas.List.{take_all, take_more_set}
+use Rattle.std.proofs.lemmas.List.Edits.{sets-eq}
+use Rattle.std.proofs.lemmas.Slice.{put_mid-paste}
 use Rattle.lists.proofs.Stores.{sets_append}
 use Rattle.octets.specs.Bytes.{le}
 
@@ -22,11 +24,25 @@ unfolding le
 le-zero zero = refl
 le-zero (suc n) = ap (λ (l : List ℕ). 0 ∷ l) (le-zero n)
 
--- the first of the bytes that are left
-pub le_step : (l : List ℕ) (at k n v : ℕ) → k < n
-    → sets l (at + k) (le (n - k) v) ≡ sets (set l (at + k) (v % 256)) (at + (k + 1)) (le (n - (k + 1)) (v / 256))
+-- one byte more in its place, and the bytes of what is left of the number
+pub bytes_turn : (l : List ℕ) (n v k rest : ℕ) → k < n → k < length l
+    → le n v ≡ take k l ++ le (n - k) rest → le n v ≡ take (k + 1) (set l k (rest % 256)) ++ le (n - (k + 1)) (rest / 256)
 unfolding le
-le_step l at k n v h = let e : n - k ≡ suc (n - suc k) = omega arith in rw (add-one, add-suc, e)
+bytes_turn l n v k rest h m e =
+    let more : n - k ≡ suc (n - (k + 1)) = omega arith in
+    e ∙ rw (take_more_set l k (rest % 256) m, append_assoc, more)
+
+-- all of them
+pub bytes_end : (l : List ℕ) (n v k rest : ℕ) → n ≤ k → length l ≡ n → le n v ≡ take k l ++ le (n - k) rest → l ≡ le n v
+unfolding le
+bytes_end l n v k rest h m e =
+    let none : n - k ≡ 0 = omega arith in
+    sym (e ∙ rw (none, append-nil, take_all k l (omega arith)))
+
+pub put_bytes : (p l : List ℕ) (at k n v : ℕ) → at + n ≤ length p → n ≡ k → l ≡ le n v → put_mid at k p l ≡ sets p at (le n v)
+put_bytes p l at k n v h q e =
+    put_mid-paste at k p l (le n v) n e q (sym (length-le n v))
+    ∙ rw (sets-eq (le n v) p at (omega (arith, length-le n v)), length-le n v, take_all n (le n v) (omega (arith, length-le n v)))
 
 -- ---- one entry: two numbers of two bytes, and one of n
 

@@ -1,17 +1,28 @@
 // Numbers in bytes, lowest byte first, and loops over the bytes of a page.
-ghost use Rattle.std.specs.Prelude.{◌≡◌, ◌+◌, ◌≤◌, length};
+ghost use Rattle.std.specs.Prelude.{◌≡◌, ◌+◌, ◌≤◌, ◌==◌, not, length, take, drop, position};
 ghost use Rattle.std.proofs.lemmas.List.Edits.{sets};
 ghost use Rattle.std.specs.Int.{w64};
 ghost use Rattle.std.proofs.Common.{to_z, of_z};
 ghost use Rattle.lists.specs.Search.{first_in, some_in};
 ghost use Rattle.octets.specs.Bytes.{field, set?, le};
 
-// The number in the two bytes of `p` from `at` on.
+// How many values a byte has.
+const VALUES: u64 = 256;
+
+// The N bytes of `p` from `at` on.
+fn bytes_at<const N: usize>(p: &[u8], at: usize) -> [u8; N]
+    requires { at + N ≤ length p.now }
+    ensures { result ≡ take N (drop at p.now) }
+{
+    *p[at..at + N].as_array().unwrap()
+}
+
+// The number in the two bytes of `p` from `at` on. A line for each width: the library converts by a function of each type.
 pub fn le2(p: &[u8], at: usize) -> u16
     requires { at + 2 ≤ length p.now }
     ensures { result ≡ field p.now at 2 }
 {
-    (p[at] as u16) + (p[at + 1] as u16) * 256
+    u16::from_le_bytes(bytes_at(p, at))
 }
 
 // The number in four bytes.
@@ -19,7 +30,7 @@ pub fn le4(p: &[u8], at: usize) -> u32
     requires { at + 4 ≤ length p.now }
     ensures { result ≡ field p.now at 4 }
 {
-    (le2(p, at) as u32) + (le2(p, at + 2) as u32) * 65536
+    u32::from_le_bytes(bytes_at(p, at))
 }
 
 // The number in eight bytes.
@@ -27,7 +38,7 @@ pub fn le8(p: &[u8], at: usize) -> u64
     requires { at + 8 ≤ length p.now }
     ensures { result ≡ field p.now at 8 }
 {
-    (le4(p, at) as u64) + (le4(p, at + 4) as u64) * 4294967296
+    u64::from_le_bytes(bytes_at(p, at))
 }
 
 // Whether a byte from `from` up to, not including, `to` is not zero.
@@ -36,28 +47,29 @@ pub fn any_set(p: &[u8], from: usize, to: usize) -> bool
     requires { (from ≤ to) × (to ≤ length p.now) }
     ensures { result ≡ some_in (set? p.now) from to }
 {
-    let mut all: u8 = 0;
-    let mut i = from;
-    while i < to {
-        all = all | p[i];
-        i += 1;
+    let mut all = 0;
+    for b in &p[from..to] {
+        all |= *b;
     }
     all != 0
 }
 
-// The first byte from `from` up to, not including, `to` that is not zero; `to` where none is.
+// The first byte that is not zero.
+fn first(p: &[u8]) -> Option<usize>
+    ensures { result ≡ position (λ b. not (b == 0)) p.now }
+{
+    p.iter().position(|b| *b != 0)
+}
+
+// The first byte from `from` up to, not including, `to` that is not zero; `to` where none is, as its callers compare it with an end.
 pub fn first_set(p: &[u8], from: usize, to: usize) -> usize
     requires { (from ≤ to) × (to ≤ length p.now) }
     ensures { result ≡ first_in (set? p.now) from to }
 {
-    let mut i = from;
-    while i < to {
-        if p[i] != 0 {
-            return i;
-        }
-        i += 1;
+    match first(&p[from..to]) {
+        Some(i) => from + i,
+        None => to,
     }
-    to
 }
 
 // Copies all bytes of `from`.
@@ -65,11 +77,7 @@ pub fn copy(from: &[u8], to: &mut [u8])
     requires { length from.now ≡ length to.old }
     ensures { to.new ≡ from.now }
 {
-    let mut i = 0;
-    while i < from.len() {
-        to[i] = from[i];
-        i += 1;
-    }
+    to.copy_from_slice(from);
 }
 
 // Writes `v` in the `count` bytes from `at` on.
@@ -78,11 +86,9 @@ pub fn put(p: &mut [u8], at: usize, count: usize, v: u64)
     ensures { p.new ≡ sets p.old at (le count v) }
 {
     let mut rest = v;
-    let mut k = 0;
-    while k < count {
-        p[at + k] = (rest % 256) as u8;
-        rest = rest / 256;
-        k += 1;
+    for b in &mut p[at..at + count] {
+        *b = (rest % VALUES) as u8;
+        rest /= VALUES;
     }
 }
 
@@ -90,20 +96,12 @@ pub fn put(p: &mut [u8], at: usize, count: usize, v: u64)
 pub fn signed(n: u64) -> i64
     ensures { result ≡ to_z w64 n }
 {
-    if n < 0x8000_0000_0000_0000 {
-        n as i64
-    } else {
-        -1 - ((0xffff_ffff_ffff_ffff - n) as i64)
-    }
+    n.cast_signed()
 }
 
 // The bits of a signed number.
 pub fn bits(v: i64) -> u64
     ensures { result ≡ of_z w64 v }
 {
-    if v >= 0 {
-        v as u64
-    } else {
-        0xffff_ffff_ffff_ffff - ((-1 - v) as u64)
-    }
+    v.cast_unsigned()
 }

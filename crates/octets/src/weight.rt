@@ -22,31 +22,36 @@ pub const SUMMED: usize = 508;
 // What each row before it adds to a byte's weight.
 const STEP: u32 = 48;
 
-// One row more: the running sums take the sums, and the sums the row's bytes, so that a byte of row r is run r times.
-fn add_row(row: &[u8], sums: &mut [u16; COLUMNS], runs: &mut [u16; COLUMNS])
-    requires { Room row.now sums.old runs.old }
-    ensures { Added row.now sums.old runs.old sums.new runs.new }
-{
-    let mut c = 0;
-    while c < COLUMNS {
-        runs[c] += sums[c];
-        sums[c] += row[c] as u16;
-        c += 1;
-    }
+// The columns of the rows added so far: each one's sum, and the sum of the sums that it had before each row.
+#[derive(Drop)]
+struct Totals {
+    sums: [u16; COLUMNS],
+    runs: [u16; COLUMNS],
 }
 
-// The weighted sum of the columns.
-fn gather(sums: &[u16; COLUMNS], runs: &[u16; COLUMNS]) -> u32
-    requires { Lanes sums.now runs.now }
-    ensures { result ≡ by_columns sums.now runs.now 48 }
-{
-    let mut total: u32 = 0;
-    let mut c = 0;
-    while c < COLUMNS {
-        total += (c as u32 + 1) * (sums[c] as u32) + STEP * (runs[c] as u32);
-        c += 1;
+impl Totals {
+    // One row more: the running sums take the sums, and the sums the row's bytes, so that a byte of row r is run r times.
+    fn add(&mut self, row: &[u8])
+        requires { Room row.now self.old.sums self.old.runs }
+        ensures { Added row.now self.old.sums self.old.runs self.new.sums self.new.runs }
+    {
+        for c in 0..COLUMNS {
+            self.runs[c] += self.sums[c];
+            self.sums[c] += row[c] as u16;
+        }
     }
-    total
+
+    // The weighted sum of the columns.
+    fn weigh(&self) -> u32
+        requires { Lanes self.now.sums self.now.runs }
+        ensures { result ≡ by_columns self.now.sums self.now.runs 48 }
+    {
+        let mut total = 0;
+        for c in 0..COLUMNS {
+            total += (c as u32 + 1) * (self.sums[c] as u32) + STEP * (self.runs[c] as u32);
+        }
+        total
+    }
 }
 
 // The sum over the bytes behind the rows of (offset + 1) times the byte.
@@ -54,11 +59,9 @@ fn tail(p: &[u8]) -> u32
     requires { 508 ≤ length p.now }
     ensures { weighed p.now 480 + result ≡ weighed p.now 508 }
 {
-    let mut sum: u32 = 0;
-    let mut i = TAIL;
-    while i < SUMMED {
+    let mut sum = 0;
+    for i in TAIL..SUMMED {
         sum += (i as u32 + 1) * (p[i] as u32);
-        i += 1;
     }
     sum
 }
@@ -68,16 +71,15 @@ fn weigh_rows(p: &[u8], rows: usize) -> u32
     requires { (rows ≤ 10) × (rows * 48 ≤ length p.now) }
     ensures { result ≡ weighed p.now (rows * 48) }
 {
-    let mut sums = [0u16; COLUMNS];
-    let mut runs = [0u16; COLUMNS];
-    let mut r = rows;
-    while r > 0 {
-        r -= 1;
+    let mut totals = Totals {
+        sums: [0; COLUMNS],
+        runs: [0; COLUMNS],
+    };
+    for r in (0..rows).rev() {
         let start = r * COLUMNS;
-        let end = start + COLUMNS;
-        add_row(&p[start..end], &mut sums, &mut runs);
+        totals.add(&p[start..start + COLUMNS]);
     }
-    gather(&sums, &runs)
+    totals.weigh()
 }
 
 // The sum over the bytes before the check of (offset + 1) times the byte.

@@ -7,7 +7,7 @@ use native.Mathlib.Omega.{arith}
 use borrow.Author.Tests.{lt-ltb}
 use lib.Dec.{T, eqb, ltb}
 use lib.ListN.{length, get_or, take, drop, get_or-append}
-use lib.Seq.{take_at}
+use lib.Seq.{take_at, get_or-take, length-take-le}
 use Rattle.lists.specs.Members.{any, those, distinct}
 use Rattle.lists.specs.Tables.{upto, tab}
 use Rattle.lists.proofs.Membership.{get_or_in, those-same, distinct-those, perm-distinct, upto_below, upto-distinct}
@@ -20,7 +20,7 @@ use Rattle.ledger.specs.declared.Version.{Version}
 use Rattle.ledger.specs.Gate.{pages, tx_at}
 use Rattle.ledger.specs.Inner.{Batch, txs_in}
 use Rattle.lists.proofs.Tables.{tab-same}
-use Rattle.refusals.specs.declared.Answer.TheVariants.{Count}
+use Rattle.std.specs.Prelude.{Ok}
 use Rattle.planner.specs.Ranks.{demands, nth, Sound, Ranked, Planned}
 use Rattle.planning.specs.Plan.{current, before, sequence, kept, verdict, order, gathered, plans, planned}
 use Rattle.planning.proofs.Few.{order-short}
@@ -40,6 +40,46 @@ lined_ranked t K batch m ps c l s = record {
   inside = λ r h. omega (arith, l.low r h, s.whole);
   good = λ r h. s.good (nth ps r) (l.low r h);
 }
+
+-- ---- the front of a list of pages
+
+module _ (batch ps : List ℕ) (c : ℕ) (h : c ≤ length ps) where
+  front_nth : (r : ℕ) → r < c → nth (take c ps) r ≡ nth ps r
+  front_nth r l = get_or-take c ps r 0 l
+
+  inner : (r : ℕ) → r < length (take c ps) → r < c
+  inner r l = omega (arith, length-take-le c ps h)
+
+  pub front_ranked : Ranked batch ps c → Ranked batch (take c ps) (length (take c ps))
+  front_ranked w = record {
+    few = omega (arith, w.few, length-take-le c ps h);
+    different = λ r s i j e. w.different r s (inner r i) (inner s j) (sym (front_nth r (inner r i)) ∙ e ∙ front_nth s (inner s j));
+    inside = λ r l. rw (front_nth r (inner r l)) (w.inside r (inner r l));
+    good = λ r l. rw (front_nth r (inner r l)) (w.good r (inner r l));
+  }
+
+  -- what is known of the ranks of the front
+  pub front_ranks :
+      (E : ℕ → ℕ → Bool) →
+      ((r s : ℕ) → r < length (take c ps) → s < length (take c ps) → E r s ≡ before (tx_at batch) (nth (take c ps) r) (nth (take c ps) s)) →
+      (r s : ℕ) → r < c → s < c → E r s ≡ before (tx_at batch) (nth ps r) (nth ps s)
+  front_ranks E agree r s i j =
+      agree r s (omega (arith, length-take-le c ps h)) (omega (arith, length-take-le c ps h))
+      ∙ ap₂ (before (tx_at batch)) (front_nth r i) (front_nth s j)
+
+-- ---- the front of an order
+
+module _ (batch os : List ℕ) (k : ℕ) (h : k ≤ length os) where
+  pub front_txs : txs_in batch (take k os) (length (take k os)) ≡ txs_in batch os k
+  unfolding txs_in
+  front_txs =
+      ap (λ m. tab m (λ j. tx_at batch (get_or (take k os) j 0))) (length-take-le k os h)
+      ∙ tab-same _ (λ j. tx_at batch (get_or os j 0)) k (λ j l. ap (tx_at batch) (get_or-take k os j 0 l))
+
+  pub front_below : (m : ℕ) → ((j : ℕ) → j < k → get_or os j 0 < m) → (j : ℕ) → j < length (take k os) → get_or (take k os) j 0 < m
+  front_below m below j l =
+      let n : j < k = omega (arith, length-take-le k os h) in
+      rw (get_or-take k os j 0 n) (below j n)
 
 -- ---- rules 1 to 4
 
@@ -128,6 +168,6 @@ module _
       ∙ ap (λ n. tab n (λ j. tx_at batch (get_or o j 0))) p.count_is
       ∙ tab-map (tx_at batch) o
 
-  pub plan_copied : (out out' : List ℕ) → out' ≡ gathered batch (take k os') ++ drop (512 * k) out → planned (Count k) vs' os' out' ≡ plans batch held (sequence held (tx_at batch) (pages batch)) vs os out
+  pub plan_copied : (out out' : List ℕ) → out' ≡ gathered batch (take k os') ++ drop (512 * length (take k os')) out → planned (Ok k) vs' os' out' ≡ plans batch held (sequence held (tx_at batch) (pages batch)) vs os out
   unfolding plans
   plan_copied out out' copied = rw (copied, front_is, p.count_is, p.verdicts_are, p.order_is)

@@ -1,6 +1,6 @@
 -- Readers of a key and blockers of a rank, page after page: what is known at each turn, and why they end as document 01's demand. Assumes nothing.
 use mathlib.Core.Path.{◌≡◌, refl, sym, ap, ap₂, ◌∙◌}
-use mathlib.Core.Bool.{Bool, true, false, not, ◌&&◌, ◌||◌, cond}
+use mathlib.Core.Bool.{Bool, true, false, not, ◌&&◌, ◌||◌}
 use mathlib.Core.List.{List}
 use Prim.Native.Nat.{ℕ, ◌+◌, ◌≤◌, ◌<◌}
 use native.Mathlib.Omega.{arith}
@@ -15,7 +15,7 @@ use Rattle.sets.specs.Set.{member}
 use Rattle.sets.proofs.Laws.{none}
 use Rattle.ledger.specs.declared.Read.{Read}
 use Rattle.ledger.specs.declared.Write.{Write}
-use Rattle.ledger.specs.Tx.{Tx, keys_read, keys_written, reader, no_read, no_write, read_of, write_of}
+use Rattle.ledger.specs.Tx.{Tx, keys_read, keys_written, reader, no_write, read_of, write_of}
 use Rattle.refusals.specs.Fault.{clear}
 use Rattle.ledger.specs.Page.{page_at, page_tx, page_fault}
 use Rattle.ledger.specs.Gate.{tx_at}
@@ -24,16 +24,6 @@ use Rattle.planner.specs.Ranks.{demands, nth, Ranked}
 use Rattle.planning.specs.Plan.{before}
 
 -- ---- tests
-
-mark : (m e a b : Bool) → cond b ((m || (e && a)) || e) (m || (e && a)) ≡ (m || (e && (a || b)))
-mark true e a true = refl
-mark true e a false = refl
-mark false true true true = refl
-mark false true true false = refl
-mark false true false true = refl
-mark false true false false = refl
-mark false false a true = refl
-mark false false a false = refl
 
 and_turned : (a b : Bool) → (a && b) ≡ (b && a)
 and_turned true true = refl
@@ -70,54 +60,6 @@ pub record Marking (xs : List Read) (rank : ℕ) (old new : List ℕ) (i : ℕ) 
       (k j : ℕ) → k < 1024 →
       member (get_or new k 0) j ≡ (member (get_or old k 0) j || (eqb rank j && any (λ r. eqb k r.key) (take i xs)))
 
-module _ (xs : List Read) (rank : ℕ) (old : List ℕ) where
-  pub marking_begins : Marking xs rank old old 0
-  marking_begins = record { long = refl; marks = λ k j h. go (member (get_or old k 0) j) (eqb rank j) }
-    where
-      go : (m e : Bool) → m ≡ (m || (e && false))
-      go true e = refl
-      go false true = refl
-      go false false = refl
-
-  pub marking_turns :
-      (new : List ℕ) (i : ℕ) (x : Read) (v : ℕ) → Marking xs rank old new i → i < length xs → x ≡ read_of xs i → x.key < length old →
-      ((j : ℕ) → member v j ≡ (member (get_or new x.key 0) j || eqb rank j)) →
-      Marking xs rank old (set new x.key v) (i + 1)
-  marking_turns new i x v inv h e l w = record {
-    long = length-set new x.key v ∙ inv.long;
-    marks = λ k j b. go k j b (eqb k x.key) refl;
-  }
-    where
-      more :
-          (k j : ℕ) →
-          (member (get_or old k 0) j || (eqb rank j && (any (λ r. eqb k r.key) (take i xs) || eqb k x.key)))
-          ≡ (member (get_or old k 0) j || (eqb rank j && any (λ r. eqb k r.key) (take (i + 1) xs)))
-      more k j =
-          ap (λ a. member (get_or old k 0) j || (eqb rank j && a))
-          (sym (any_next (λ r. eqb k r.key) xs i no_read h
-          ∙ ap (λ (y : Read). any (λ r. eqb k r.key) (take i xs) || eqb k y.key) (sym e)))
-
-      go :
-          (k j : ℕ) → k < 1024 → (b : Bool) → eqb k x.key ≡ b →
-          member (get_or (set new x.key v) k 0) j
-          ≡ (member (get_or old k 0) j || (eqb rank j && any (λ r. eqb k r.key) (take (i + 1) xs)))
-      go k j h true q =
-          let same = eqb-true k x.key q in
-          ap (λ n. member (get_or (set new x.key v) n 0) j) same
-          ∙ ap (λ n. member n j) (get_or-set_same new x.key v 0 (omega (arith, inv.long)))
-          ∙ w j
-          ∙ ap (λ n. member (get_or new n 0) j || eqb rank j) (sym same)
-          ∙ ap (λ b. b || eqb rank j) (inv.marks k j h)
-          ∙ mark (member (get_or old k 0) j) (eqb rank j) (any (λ r. eqb k r.key) (take i xs)) true
-          ∙ ap (λ b. member (get_or old k 0) j || (eqb rank j && (any (λ r. eqb k r.key) (take i xs) || b))) (sym q)
-          ∙ more k j
-      go k j h false q =
-          ap (λ n. member n j) (get_or-set_other new x.key k v 0 (eqb-false k x.key q))
-          ∙ inv.marks k j h
-          ∙ mark (member (get_or old k 0) j) (eqb rank j) (any (λ r. eqb k r.key) (take i xs)) false
-          ∙ ap (λ b. member (get_or old k 0) j || (eqb rank j && (any (λ r. eqb k r.key) (take i xs) || b))) (sym q)
-          ∙ more k j
-
 -- all reads of a page
 pub marking_ends :
     (x : Tx) (rank : ℕ) (old new : List ℕ) (i : ℕ) → Marking x.reads rank old new i → length x.reads ≤ i → (k j : ℕ) → k < 1024 →
@@ -141,36 +83,24 @@ module _ (batch pages : List ℕ) where
     marks = λ k j h. ap (λ n. member n j) (get_or-replicate 1024 k 0 0 h) ∙ none j ∙ sym (ap (λ b. b && reader (tx_at batch (nth pages j)) k) (le-ltb j 0 (omega arith)));
   }
 
-  pub reading_turns :
-      (readers new p : List ℕ) (r : ℕ) → Reading batch pages readers r → length new ≡ length readers → p ≡ page_at batch (nth pages r) →
-      ((k j : ℕ) → k < 1024 → member (get_or new k 0) j ≡ (member (get_or readers k 0) j || (eqb r j && reader (page_tx p) k))) →
-      Reading batch pages new (r + 1)
-  reading_turns readers new p r inv l is w = record {
-    long = l ∙ inv.long;
-    marks = λ k j h.
-        w k j h
-        ∙ ap₂ (λ a p. a || (eqb r j && reader (page_tx p) k)) (inv.marks k j h) is
-        ∙ below_next (λ i. reader (tx_at batch (nth pages i)) k) j r;
-  }
-
 -- ---- those that must stand before a rank
 
 -- the readers of the keys that the first writes name
 abbrev pub Written : List ℕ → List Write → ℕ → ℕ → Type 0
 Written readers ws i set = (j : ℕ) → member set j ≡ any (λ w. member (get_or readers w.key 0) j) (take i ws)
 
-pub written-more :
-    (readers : List ℕ) (ws : List Write) (i set new : ℕ) (x : Write) → Written readers ws i set → i < length ws → x ≡ write_of ws i →
-    ((j : ℕ) → member new j ≡ (member set j || member (get_or readers x.key 0) j)) → Written readers ws (i + 1) new
-written-more readers ws i set new x inv h e w j =
-    w j
-    ∙ ap₂ (λ a (y : Write). a || member (get_or readers y.key 0) j) (inv j) e
-    ∙ sym (any_next (λ y. member (get_or readers y.key 0) j) ws i no_write h)
-
 -- the readers of the keys that a transaction writes, without a rank
 abbrev pub Blocked : List ℕ → Tx → ℕ → ℕ → Type 0
 Blocked readers x s set =
     (j : ℕ) → member set j ≡ (any (λ k. member (get_or readers k 0) j) (keys_written x) && not (eqb s j))
+
+pub written_more :
+    (readers : List ℕ) (ws : List Write) (i set new v : ℕ) (w : Write) → Written readers ws i set → i < length ws → w ≡ write_of ws i →
+    v ≡ get_or readers w.key 0 → ((j : ℕ) → member new j ≡ (member set j || member v j)) → Written readers ws (i + 1) new
+written_more readers ws i set new v w inv h here got more j =
+    more j
+    ∙ ap₂ (λ a b. a || b) (inv j) (ap (λ (n : ℕ). member n j) (got ∙ ap (λ x. get_or readers x.key 0) here))
+    ∙ sym (any_next (λ x. member (get_or readers x.key 0) j) ws i no_write h)
 
 pub written_all :
     (readers : List ℕ) (x : Tx) (i set new s : ℕ) → Written readers x.writes i set → length x.writes ≤ i →
@@ -188,9 +118,6 @@ pub record Blocking (batch pages readers blockers : List ℕ) (r : ℕ) : Type 0
   pub blocks : (s : ℕ) → s < r → Blocked readers (tx_at batch (nth pages s)) s (get_or blockers s 0)
 
 module _ (batch pages readers : List ℕ) where
-  pub blocking_begins : (blockers : List ℕ) → length blockers ≡ 64 → Blocking batch pages readers blockers 0
-  blocking_begins blockers l = record { long = l; blocks = λ s h. absurd (omega arith) }
-
   pub blocking_turns :
       (blockers p : List ℕ) (r v : ℕ) → Blocking batch pages readers blockers r → r < 64 → p ≡ page_at batch (nth pages r) →
       Blocked readers (page_tx p) r v →

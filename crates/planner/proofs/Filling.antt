@@ -1,14 +1,18 @@
 -- What a plan leaves in the lent lists, filled from the front: what is known at each turn. Assumes nothing.
 use mathlib.Core.Path.{◌≡◌, refl, sym, ap, ap₂, ◌∙◌}
-use mathlib.Core.Bool.{Bool, true, false, not, cond}
+use mathlib.Core.Bool.{Bool, true, false, cond}
+use denote.Enum.Declared.{tag_of}
+use Rattle.ledger.specs.contracts.verdict.Verdict.{the_type}
+use Rattle.ledger.specs.declared.verdict.Verdict.{Verdict}
+use Rattle.ledger.specs.declared.verdict.Verdict.TheVariants.{Kept, Stale, Cycle}
 use mathlib.Core.List.{List, [], ◌∷◌, ◌++◌, append_assoc, append-nil}
 use Prim.Native.Nat.{ℕ, suc, ◌+◌, ◌-◌, ◌*◌, ◌≤◌, ◌<◌}
 use native.Mathlib.Numerals.{add-one}
 use native.Mathlib.Omega.{arith}
-use lib.ListN.{length, get_or, take, drop, set, length-append, length-drop}
-use lib.Seq.{length-take-le, take-suc, drop-cons, drop-drop, get_or-take, set_at, take_at, drop_at}
+use lib.ListN.{length, get_or, take, drop, set}
+use lib.Seq.{length-take-le, take-suc, take_all, drop-cons, drop-drop, get_or-take, set_at, take_at, drop_at}
+use Rattle.std.proofs.lemmas.List.{drop_all}
 use Rattle.lists.specs.Members.{◌∈◌}
-use Rattle.lists.proofs.Tests.{clash}
 use Rattle.lists.proofs.Membership.{in_at}
 use Rattle.lists.specs.Tables.{tab}
 use Rattle.ledger.specs.Page.{page_at}
@@ -18,15 +22,12 @@ use Rattle.planner.specs.Ranks.{nth}
 use Rattle.planning.specs.Plan.{gathered}
 use Rattle.planning.proofs.OutBatch.{gathered_long}
 
--- ---- the verdict of a page
+-- ---- the verdict of a page, by its number
 
-pub stale : (current kept : Bool) → not current ≡ true → ◌≡◌ {A = ℕ} 1 (cond current (cond kept 0 2) 1)
-stale true kept e = absurd (clash (sym e))
-stale false kept e = refl
-
-pub judged : (current kept b : Bool) → not current ≡ false → kept ≡ b → ◌≡◌ {A = ℕ} (cond b 0 2) (cond current (cond kept 0 2) 1)
-judged true kept b e f = rw f
-judged false kept b e f = absurd (clash e)
+pub told : (v : Verdict) (current kept : Bool) → v ≡ cond current (cond kept Kept Cycle) Stale → tag_of the_type v ≡ cond current (cond kept 0 2) 1
+told v true true e = rw e refl
+told v true false e = rw e refl
+told v false kept e = rw e refl
 
 -- ---- lists filled from the front
 
@@ -38,8 +39,13 @@ fills f i old h =
     ∙ set_at (tab i f) (get_or old i 0) (drop (suc i) old) (f i) i (length-tab f i)
     ∙ rw (add-one, append_assoc)
 
-pub fills_long : (f : ℕ → ℕ) (i : ℕ) (old : List ℕ) → i ≤ length old → length (tab i f ++ drop i old) ≡ length old
-fills_long f i old h = simp (length-append, length-tab, length-drop) (omega arith)
+-- all entries
+pub filled_all : (f : ℕ → ℕ) (i : ℕ) (new old : List ℕ) → i ≡ length old → new ≡ tab i f ++ drop i old → new ≡ tab (length old) f
+filled_all f i new old all e = e ∙ ap (λ l. tab i f ++ l) (drop_all i old (omega arith)) ∙ append-nil (tab i f) ∙ ap (λ n. tab n f) all
+
+-- the front of a longer list
+pub filled-part : (f : ℕ → ℕ) (m : ℕ) (new old : List ℕ) → m ≤ length old → new ≡ tab (length (take m old)) f → new ++ drop m old ≡ tab m f ++ drop m old
+filled-part f m new old h e = ap (λ l. l ++ drop m old) (e ∙ ap (λ n. tab n f) (length-take-le m old h))
 
 -- ---- pages after one another
 
@@ -48,14 +54,14 @@ unfolding gathered
 gathered-append batch [] js = refl
 gathered-append batch (i ∷ is) js = rw append_assoc (ap (λ l. page_at batch i ++ l) (gathered-append batch is js))
 
-module _ (batch order : List ℕ) (k : ℕ) (long : k ≤ length order) (inside : (j : ℕ) → j < k → nth order j * 512 + 512 ≤ length batch) where
-  pub gathered_next : (j : ℕ) → j < k → gathered batch (take (j + 1) order) ≡ gathered batch (take j order) ++ page_at batch (nth order j)
+module _ (batch order : List ℕ) (inside : (j : ℕ) → j < length order → nth order j * 512 + 512 ≤ length batch) where
+  pub gathered_next : (j : ℕ) → j < length order → gathered batch (take (j + 1) order) ≡ gathered batch (take j order) ++ page_at batch (nth order j)
   unfolding gathered
-  gathered_next j h = rw (add-one, take-suc order j 0 (omega arith)) (gathered-append batch (take j order) (nth order j ∷ []) ∙ ap (λ l. gathered batch (take j order) ++ l) (append-nil (page_at batch (nth order j))))
+  gathered_next j h = rw (add-one, take-suc order j 0 h) (gathered-append batch (take j order) (nth order j ∷ []) ∙ ap (λ l. gathered batch (take j order) ++ l) (append-nil (page_at batch (nth order j))))
 
-  front_long : (j : ℕ) → j ≤ k → length (gathered batch (take j order)) ≡ j * 512
+  front_long : (j : ℕ) → j ≤ length order → length (gathered batch (take j order)) ≡ j * 512
   front_long j h =
-      let size : length (take j order) ≡ j = length-take-le j order (omega arith) in
+      let size : length (take j order) ≡ j = length-take-le j order h in
       gathered_long batch (take j order) (λ i m. within size m) ∙ ap (λ n. n * 512) size
     where
       within : length (take j order) ≡ j → {i : ℕ} → i ∈ take j order → i * 512 + 512 ≤ length batch
@@ -66,7 +72,7 @@ module _ (batch order : List ℕ) (k : ℕ) (long : k ≤ length order) (inside 
 
   -- one more page
   pub gathers :
-      (j : ℕ) (out old ys : List ℕ) → j < k → out ≡ gathered batch (take j order) ++ drop (512 * j) old →
+      (j : ℕ) (out old ys : List ℕ) → j < length order → out ≡ gathered batch (take j order) ++ drop (512 * j) old →
       ys ≡ page_at batch (nth order j) →
       take (j * 512) out ++ (ys ++ drop (j * 512 + 512 - j * 512) (drop (j * 512) out)) ≡ gathered batch (take (j + 1) order) ++ drop (512 * (j + 1)) old
   gathers j out old ys h e f =
@@ -86,6 +92,8 @@ module _ (batch order : List ℕ) (k : ℕ) (long : k ≤ length order) (inside 
           let more : 512 * j + 512 ≡ 512 * (j + 1) = omega arith in
           sym (drop-drop 512 (j * 512) out) ∙ ap (drop 512) behind ∙ drop-drop 512 (512 * j) old ∙ ap (λ n. drop n old) more
 
-  pub gathers_long : (j : ℕ) (out old : List ℕ) → j ≤ k → k * 512 ≤ length old → out ≡ gathered batch (take j order) ++ drop (512 * j) old → length out ≡ length old
-  gathers_long j out old h l e =
-      ap length e ∙ length-append (gathered batch (take j order)) (drop (512 * j) old) ∙ omega (arith, front_long j h, length-drop (512 * j) old)
+-- all pages
+pub gathered_all :
+    (batch order : List ℕ) (j : ℕ) (out old : List ℕ) → j ≡ length order → out ≡ gathered batch (take j order) ++ drop (512 * j) old →
+    out ≡ gathered batch order ++ drop (512 * length order) old
+gathered_all batch order j out old all e = e ∙ ap₂ (λ l n. gathered batch l ++ drop (512 * n) old) (take_all j order (omega arith)) all

@@ -2,8 +2,8 @@ pub mod Answered
 pub mod Candidates
 pub mod Demanding
 pub mod Filling
+pub mod Inserting
 pub mod Placing
 pub mod Ranking
-pub mod Shifting
 pub mod Steps
 pub mod Surveying

@@ -1,71 +1,57 @@
 // What a plan leaves in the lent lists.
-ghost use Rattle.std.specs.Prelude.{◌≡◌, ◌++◌, ℕ, ◌*◌, ◌+◌, ◌≤◌, ◌<◌, length, get_or, take, drop, eqb, cond};
+ghost use Rattle.std.specs.Prelude.{◌≡◌, ◌++◌, ℕ, ◌*◌, ◌+◌, ◌≤◌, ◌<◌, length, get_or, drop, eqb, cond};
 ghost use Rattle.lists.specs.Members.{any};
 ghost use Rattle.sets.specs.Set.{member};
 ghost use Rattle.lists.specs.Tables.{tab};
 ghost use Rattle.planning.specs.Plan.{gathered};
 
 use ledger::layout;
-use octets::bytes;
+use ledger::verdict::Verdict;
+use sets::Set;
 
-// The verdicts of a plan.
-pub const KEPT: u8 = 0;
-
-pub const STALE: u8 = 1;
-
-pub const CYCLE: u8 = 2;
-
-// The first `k` page indexes of an order, as a set.
-pub fn placed(order: &[u8], k: usize) -> u64
-    requires k_in_bounds { k ≤ length order.now }
-    requires by_index { (j : ℕ) → j < k → get_or order.now j 0 < 64 }
-    ensures { (i : ℕ) → member result i ≡ any (eqb i) (take k order.now) }
+// The page indexes of an order, as a set.
+pub fn placed(order: &[u8]) -> Set
+    requires by_index { (j : ℕ) → j < length order.now → get_or order.now j 0 < 64 }
+    ensures { (i : ℕ) → member result i ≡ any (eqb i) order.now }
 {
-    let mut set = 0u64;
-    let mut j = 0;
-    while j < k {
-        set = sets::with(set, order[j] as usize);
-        j += 1;
+    let mut set = Set::EMPTY;
+    for page in order {
+        set = set.with(*page as usize);
     }
     set
 }
 
 // The verdict of a page.
-fn verdict(current: bool, kept: bool) -> u8
-    ensures { result ≡ cond current (cond kept 0 2) 1 }
+fn verdict(current: bool, kept: bool) -> Verdict
+    ensures { result ≡ cond current (cond kept Verdict.Kept Verdict.Cycle) Verdict.Stale }
 {
     if !current {
-        return STALE;
+        return Verdict::Stale;
     }
-    if kept { KEPT } else { CYCLE }
+    if kept { Verdict::Kept } else { Verdict::Cycle }
 }
 
-// Fills the first `m` verdicts.
-pub fn fill_verdicts(verdicts: &mut [u8], m: usize, current: u64, kept: u64)
-    requires { (m ≤ length verdicts.old) × (m ≤ 64) }
+// Fills the verdicts, one for each page.
+pub fn fill_verdicts(verdicts: &mut [u8], current: Set, kept: Set)
+    requires { length verdicts.old ≤ 64 }
     ensures { verdicts.new
-        ≡ tab m (λ i. cond (member current i) (cond (member kept i) 0 2) 1) ++ drop m verdicts.old }
+        ≡ tab (length verdicts.old) (λ i. cond (member current i) (cond (member kept i) 0 2) 1) }
 {
-    let mut i = 0;
-    while i < m {
-        verdicts[i] = verdict(sets::has(current, i), sets::has(kept, i));
-        i += 1;
+    for (i, out) in verdicts.iter_mut().enumerate() {
+        *out = verdict(current.has(i), kept.has(i)) as u8;
     }
 }
 
-// Fills the front of the out batch with the first `k` pages of the order.
-pub fn fill_out(batch: &[u8], order: &[u8], k: usize, out: &mut [u8])
-    requires k_in_bounds { (k ≤ length order.now) × (k * 512 ≤ length out.old) }
-    requires by_index { (j : ℕ) → j < k → get_or order.now j 0 * 512 + 512 ≤ length batch.now }
+// Fills the front of the out batch with the pages of the order.
+pub fn fill_out(batch: &[u8], order: &[u8], out: &mut [u8])
+    requires room { length order.now * 512 ≤ length out.old }
+    requires by_index { (j : ℕ) → j < length order.now → get_or order.now j 0 * 512 + 512 ≤ length batch.now }
     ensures { out.new
-        ≡ gathered batch.now (take k order.now) ++ drop (512 * k) out.old }
+        ≡ gathered batch.now order.now ++ drop (512 * length order.now) out.old }
 {
-    let mut j = 0;
-    while j < k {
-        let page = order[j] as usize;
+    for (j, page) in order.iter().enumerate() {
         let start = j * layout::PAGE;
         let end = start + layout::PAGE;
-        bytes::copy(layout::page_at(batch, page), &mut out[start..end]);
-        j += 1;
+        out[start..end].copy_from_slice(layout::page_at(batch, *page as usize));
     }
 }

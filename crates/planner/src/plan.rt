@@ -1,31 +1,30 @@
 // The plan of a batch.
 ghost use Rattle.std.specs.Prelude.{◌≡◌, ◌&&◌, ℕ, ◌≤◌, ◌<◌, length, ltb};
 ghost use Rattle.sets.specs.Set.{member};
-ghost use Rattle.ledger.specs.State.{state_of, versions_in};
-ghost use Rattle.ledger.specs.Gate.{tx_at};
+ghost use Rattle.ledger.specs.State.{lent, keys, versions};
+ghost use Rattle.ledger.specs.Gate.{pages, tx_at};
 ghost use Rattle.ledger.specs.Inner.{Batch, TicketsOf};
 ghost use Rattle.planner.specs.Ranks.{Differ, Planned};
 ghost use Rattle.planning.specs.Plan.{current, short_lists, planned, plan_batch};
 
 use crate::{admission, demand, fill, ranks, schedule};
-use ledger::layout;
-use refusals::{Answer, Finding};
+use ledger::{Page, State, batch, commit, layout};
+use refusals::Refusal;
+use sets::Set;
 
-// Rule 1: the current ones of the first `m` pages, as a set.
-fn current(batch: &[u8], blocks: &[u32], places: &[u16], m: usize) -> u64
-    requires batch { Batch (length blocks.now) batch.now m }
-    requires places_len { length places.now ≡ length blocks.now }
+// Rule 1: the current pages, as a set.
+fn current(batch: &[u8], state: State<'_>) -> Set
+    requires batch { Batch (keys (lent state)) batch.now (pages batch.now) }
+    requires places_len { length state.places.now ≡ length state.blocks.now }
     ensures { (i : ℕ)
         → member result i
-        ≡ (ltb i m && current (versions_in blocks.now places.now) (tx_at batch.now) i) }
+        ≡ (ltb i (pages batch.now) && current (versions (lent state.entry)) (tx_at batch.now) i) }
 {
-    let mut set = 0u64;
-    let mut i = 0;
-    while i < m {
-        if ledger::commit::passes(layout::page_at(batch, i), blocks, places) {
-            set = sets::with(set, i);
+    let mut set = Set::EMPTY;
+    for (i, bytes) in batch.chunks_exact(layout::PAGE).enumerate() {
+        if commit::passes(Page { bytes }, state) {
+            set = set.with(i);
         }
-        i += 1;
     }
     set
 }
@@ -41,54 +40,46 @@ pub fn lists_short(verdicts: &[u8], order: &[u8], m: usize) -> bool
 pub fn plan_pages(
     batch: &[u8],
     tickets: &[u32; layout::MOST_PAGES],
-    blocks: &[u32],
-    places: &[u16],
-    m: usize,
+    state: State<'_>,
     verdicts: &mut [u8],
     order: &mut [u8],
 ) -> usize
-    requires batch { Batch (length blocks.now) batch.now m }
-    requires places_len { length places.now ≡ length blocks.now }
-    requires differ { Differ batch.now m }
-    requires tickets_of { TicketsOf batch.now m tickets.now }
-    requires m_in_bounds { (m ≤ length verdicts.old) × (m ≤ length order.old) }
-    ensures { let held = versions_in blocks.now places.now in
-        Planned batch.now held m verdicts.old order.old result verdicts.new
+    requires batch { Batch (keys (lent state)) batch.now (pages batch.now) }
+    requires places_len { length state.places.now ≡ length state.blocks.now }
+    requires differ { Differ batch.now (pages batch.now) }
+    requires tickets_of { TicketsOf batch.now (pages batch.now) tickets.now }
+    requires room { (pages batch.now ≤ length verdicts.old) × (pages batch.now ≤ length order.old) }
+    ensures { Planned batch.now (versions (lent state.entry)) (pages batch.now) verdicts.old order.old result verdicts.new
         order.new }
 {
-    let current = current(batch, blocks, places, m);
+    let m = batch.len() / layout::PAGE;
+    let current = current(batch, state);
     let mut pages = [0u8; layout::MOST_PAGES];
     let count = ranks::by_ticket(current, m, tickets, &mut pages);
-    let blockers = demand::blockers(batch, &pages, count);
+    let blockers = demand::blockers(batch, &pages[..count]);
     let kept = admission::admitted(&blockers, count);
     let k = schedule::fill_order(&blockers, kept, &pages, order);
-    fill::fill_verdicts(verdicts, m, current, fill::placed(order, k));
+    fill::fill_verdicts(&mut verdicts[..m], current, fill::placed(&order[..k]));
     k
 }
 
 // Plans a batch under the number n: the gate's refusals.
 pub fn plan_batch(
     batch: &[u8],
-    blocks: &[u32],
-    places: &[u16],
-    values: &[i64],
+    state: State<'_>,
     n: u32,
     verdicts: &mut [u8],
     order: &mut [u8],
     out: &mut [u8],
-) -> Answer
-    ensures { let s = state_of blocks.now places.now values.now in
-        planned result verdicts.new order.new out.new
-        ≡ plan_batch batch.now s n verdicts.old order.old out.old }
+) -> Result<usize, Refusal>
+    ensures { planned result verdicts.new order.new out.new
+        ≡ plan_batch batch.now (lent state.entry) n verdicts.old order.old out.old }
 {
     let m = batch.len() / layout::PAGE;
     let short = lists_short(verdicts, order, m) || out.len() < m * layout::PAGE;
     let mut tickets = [0u32; layout::MOST_PAGES];
-    let found = ledger::batch::gate_fault(batch, blocks, places, values, n, short, &mut tickets);
-    if let Finding::Found { refusal } = found {
-        return Answer::Refused { refusal };
-    }
-    let count = plan_pages(batch, &tickets, blocks, places, m, verdicts, order);
-    fill::fill_out(batch, order, count, out);
-    Answer::Count { count }
+    batch::gate_fault(batch, state, n, short, &mut tickets)?;
+    let count = plan_pages(batch, &tickets, state, verdicts, order);
+    fill::fill_out(batch, &order[..count], out);
+    Ok(count)
 }

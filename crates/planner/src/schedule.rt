@@ -1,5 +1,5 @@
 // Rule 4: the order of the kept, by rank.
-ghost use Rattle.std.specs.Prelude.{◌≡◌, false, ◌++◌, map, ◌≤◌, ◌<◌, length, drop};
+ghost use Rattle.std.specs.Prelude.{◌≡◌, false, ◌++◌, map, ◌≤◌, ◌<◌, ◌↔◌, length, drop, IsSome, IfSome};
 ghost use Rattle.orders.specs.Arrange.{schedule};
 ghost use Rattle.orders.specs.Chain.{cyclic};
 ghost use Rattle.orders.specs.Walk.{Next};
@@ -7,35 +7,33 @@ ghost use Rattle.sets.specs.Set.{member, members};
 ghost use Rattle.planner.specs.Ranks.{demands, nth};
 
 use ledger::layout;
+use sets::Set;
 
-// The lowest of those left that no other of them must stand before:
-// each candidate is left by label as soon as a blocker is found.
-fn next_free(blockers: &[u64; layout::MOST_PAGES], left: u64) -> usize
-    requires left_nonzero { 0 < left }
-    requires left_value { cyclic (demands blockers.now) (members left 64) ≡ false }
-    ensures { Next (demands blockers.now) (member left) result }
+// The lowest of those left that no other of them must stand before: document 01's nested search,
+// in which each candidate is left by label as soon as a blocker is found.
+fn next_free(blockers: &[Set; layout::MOST_PAGES], left: Set) -> Option<usize>
+    requires { cyclic (demands blockers.now) (members left 64) ≡ false }
+    ensures some { IsSome result ↔ (0 < left) }
+    ensures value { IfSome result (Next (demands blockers.now) (member left)) }
 {
-    let mut open = left;
-    'tickets: while open != 0 {
-        let p = sets::lowest(open);
+    'tickets: for p in left.members() {
         let mut others = blockers[p];
-        while others != 0 {
-            let q = sets::lowest(others);
-            if sets::has(left, q) {
-                open = sets::drop_lowest(open);
+        // By hand: an iterator takes each one out before it is asked, and the first asked mostly blocks: a third more work.
+        while let Some(q) = others.first() {
+            if left.has(q) {
                 continue 'tickets;
             }
-            others = sets::drop_lowest(others);
+            others = others.drop_lowest();
         }
-        return p;
+        return Some(p);
     }
-    0
+    None
 }
 
 // Fills the front of the order list with the pages of the kept in schedule order, and gives how many there are.
 pub fn fill_order(
-    blockers: &[u64; layout::MOST_PAGES],
-    kept: u64,
+    blockers: &[Set; layout::MOST_PAGES],
+    kept: Set,
     pages: &[u8; layout::MOST_PAGES],
     order: &mut [u8],
 ) -> usize
@@ -48,9 +46,9 @@ pub fn fill_order(
 {
     let mut left = kept;
     let mut k = 0;
-    while left != 0 {
-        let p = next_free(blockers, left);
-        left = sets::without(left, p);
+    // The set shrinks by a member that each turn finds anew, so no iterator walks it.
+    while let Some(p) = next_free(blockers, left) {
+        left = left.without(p);
         order[k] = pages[p];
         k += 1;
     }

@@ -1,6 +1,6 @@
 -- Document 02, 'E2: One call for the ordinary batch': plan and commit in one. Assumes nothing.
-use Rattle.std.specs.Prelude.{ℕ, ◌*◌, List, take, replicate}
-use Rattle.refusals.specs.declared.Answer.{Answer}
+use Rattle.std.specs.Prelude.{ℕ, ◌*◌, List, take, replicate, Result}
+use Rattle.refusals.specs.declared.Refusal.{Refusal}
 use Rattle.refusals.specs.Outcome.{Outcome, gives, refuses, outcome}
 use Rattle.ledger.specs.State.{State}
 use Rattle.ledger.specs.Gate.{pages}
@@ -30,5 +30,5 @@ plan_and_commit batch s n vs os =
     record { answer = p.answer; state = settled s n p; verdicts = p.verdicts; order = p.order }
 
 -- the answer of the joined call as an outcome, with what was lent as it is at the end
-abbrev pub joined : Answer → State → List ℕ → List ℕ → Joined
+abbrev pub joined : Result ℕ Refusal → State → List ℕ → List ℕ → Joined
 joined a s vs os = record { answer = outcome a; state = s; verdicts = vs; order = os }

@@ -1,8 +1,8 @@
 -- Document 01, 'Planning'. A transaction of a batch is named by its page index: `b i` is the transaction on page i. Assumes nothing.
-use Rattle.std.specs.Prelude.{ℕ, ◌*◌, Bool, not, ◌&&◌, ◌||◌, cond, List, [], ◌∷◌, ◌++◌, length, drop, eqb, ltb}
+use Rattle.std.specs.Prelude.{ℕ, ◌*◌, Bool, not, ◌&&◌, ◌||◌, cond, List, [], ◌∷◌, ◌++◌, length, drop, eqb, ltb, Result}
 use Rattle.lists.specs.Members.{any, those}
 use Rattle.lists.specs.Tables.{upto, filled, tab}
-use Rattle.refusals.specs.declared.Answer.{Answer}
+use Rattle.refusals.specs.declared.Refusal.{Refusal}
 use Rattle.refusals.specs.Outcome.{Outcome, gives, outcome}
 use Rattle.refusals.specs.Fault.{Row, first, judged, after}
 use Rattle.orders.specs.Admission.{admit}
@@ -99,5 +99,5 @@ plan_batch batch s n vs os out =
     }
 
 -- the answer of plan as an outcome, with what was lent as it is at the end
-abbrev pub planned : Answer → List ℕ → List ℕ → List ℕ → Plans
+abbrev pub planned : Result ℕ Refusal → List ℕ → List ℕ → List ℕ → Plans
 planned a vs os out = record { answer = outcome a; verdicts = vs; order = os; out = out }

@@ -8,9 +8,10 @@ use mathlib.Core.Logic.{◌↔◌, ◌⊎◌, inl, inr, ⊎_elim}
 use mathlib.Core.Path.{◌≡◌, refl, sym, ap, ap₂, ◌∙◌}
 use lib.Dec.{T}
 use Rattle.lists.specs.Members.{all}
-use Rattle.lists.specs.Search.{first_in}
+use Rattle.std.specs.Prelude.{Some, None}
+use Rattle.lists.specs.Search.{first_in, found_in}
 use Rattle.lists.proofs.Tests.{both, and_left, and_right}
-use Rattle.lists.proofs.Searches.{some, none, holds, missed, before}
+use Rattle.lists.proofs.Searches.{some, none, holds, missed, before, given_some, given_none}
 use Rattle.refusals.specs.Outcome.{Outcome, gives, refuses}
 use Rattle.refusals.specs.Fault.{Fault, clear, fault, is_clear, Row, row, first, Given, here, later, rows_from, in_turn, each_row, lowest_row, moved, judged, after}
 
@@ -229,6 +230,14 @@ module _ (n m : ℕ) (test : ℕ → Bool) where
 
     pub test_missed : m ≤ x → first (each_row n m test) ≡ clear
     test_missed h = test_clear (missed test m (none test 0 m x found h))
+
+-- one row for each index, by what a search gave
+module _ (n m : ℕ) (test : ℕ → Bool) where
+  pub row_found : (i : ℕ) → Some i ≡ found_in test 0 m → first (each_row n m test) ≡ fault n i
+  row_found i e = let g = given_some test 0 m i e in test_found n m test i g.0 g.1
+
+  pub row_missed : None ≡ found_in test 0 m → first (each_row n m test) ≡ clear
+  row_missed e = test_clear n m test (missed test m (given_none test 0 m e))
 
 -- one row for the lowest index, as a search finds it
 module _ (n : ℕ) (place : ℕ → ℕ) (test : ℕ → Bool) (from to : ℕ) (rs : List Row) (x : ℕ) (found : x ≡ first_in test from to) where

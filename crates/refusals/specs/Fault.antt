@@ -1,9 +1,8 @@
 -- Tables of refusals: rows in turn, and the first whose case is there. Assumes nothing.
-use Rattle.std.specs.Prelude.{ℕ, zero, suc, Bool, true, false, cond, List, [], ◌∷◌, ◌++◌, ◌≡◌}
+use Rattle.std.specs.Prelude.{ℕ, zero, suc, Bool, true, false, cond, List, [], ◌∷◌, ◌++◌, ◌≡◌, Result, Ok, Err}
 use Rattle.lists.specs.Search.{first_in, some_in}
-use Rattle.refusals.specs.declared.Finding.{Finding}
-use Rattle.refusals.specs.declared.Finding.TheVariants.{Clear, Found}
-use Rattle.refusals.specs.Outcome.{Outcome, gives, refuses}
+use Rattle.refusals.specs.declared.Refusal.{Refusal}
+use Rattle.refusals.specs.Outcome.{Outcome, gives, refuses, number_of}
 
 -- no fault, or a refusal's number and place
 pub data Fault : Type 0 where
@@ -70,7 +69,7 @@ abbrev pub after : {A : Type 0} → Fault → A → A → A
 after clear new old = new
 after (fault n p) new old = old
 
--- what tests in turn found, as a fault
-abbrev pub finding : Finding → Fault
-finding Clear = clear
-finding (Found r) = fault r.number r.place
+-- what tests in turn found, as a fault: nothing, or the first refusal
+abbrev pub finding : Result Unit Refusal → Fault
+finding (Ok u) = clear
+finding (Err r) = fault (number_of r.reason) r.place

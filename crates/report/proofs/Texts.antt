@@ -18,13 +18,6 @@ use Rattle.report.proofs.Puts.{fills, fills_to}
 
 -- ---- the line of a key
 
-module _ (k : ℕ) (e : Entry) where
-  pub line_none : is_present e.version ≡ false → [] ≡ cond (is_present e.version) (state_line k e) []
-  line_none h = rw h
-
-  pub line_present : is_present e.version ≡ true → state_line k e ≡ cond (is_present e.version) (state_line k e) []
-  line_present h = rw h
-
 pub key_line_lem : (s : State) (k : ℕ) (e : Entry) → e ≡ entry s k → cond (is_present e.version) (state_line k e) [] ≡ key_line s k
 unfolding key_line
 key_line_lem s k e h = ap (λ (x : Entry). cond (is_present x.version) (state_line k x) []) h

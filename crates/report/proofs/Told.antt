@@ -5,15 +5,14 @@ use mathlib.Core.List.{List}
 use native.Mathlib.Omega.{arith}
 use lib.ListN.{length, drop, length-append}
 use Rattle.refusals.specs.declared.Refusal.{Refusal}
-use Rattle.refusals.specs.declared.Answer.TheVariants.{Count, Refused}
-use Rattle.refusals.specs.Outcome.{gives, refuses}
+use Rattle.std.specs.Prelude.{Result, Ok, Err}
+use Rattle.refusals.specs.Outcome.{gives, refuses, number_of}
 use Rattle.ledger.specs.State.{State}
 use Rattle.planning.specs.Joined.{Joined, joined}
 use Rattle.lists.specs.Tables.{filled}
 use Rattle.report.specs.Listing.{listed, refused}
 use Rattle.report.specs.Program.{Within, start_number, done, shown, told, told_state}
-use Rattle.report.specs.declared.program.Input.{Input}
-use Rattle.report.specs.declared.program.Input.TheVariants.{Bytes, TooLong, Unread}
+use Rattle.report.specs.declared.program.InputError.{InputError}
 
 -- the length that is given, and the buffer at the end
 abbrev pub Told : List ℕ → List ℕ → ℕ → List ℕ → Type 0
@@ -43,15 +42,15 @@ module _ (text input : List ℕ) (s : State) where
       same_left text (due j) (shown input s text) j.state (done input s).state r new j.state
       (ap due e) (ap (λ (i : Joined). i.state) e) (record { result_value = x.0; text_after = x.1; left_after = refl })
 
-  pub told-refused : (f : Refusal) (t : State) (a b : List ℕ) → joined (Refused f) t a b ≡ done input s
-      → (r : ℕ) (new : List ℕ) → Told text (refused text f.number f.place) r new
+  pub told-refused : (f : Refusal) (t : State) (a b : List ℕ) → joined (Err f) t a b ≡ done input s
+      → (r : ℕ) (new : List ℕ) → Told text (refused text (number_of f.reason) f.place) r new
       → Left text (shown input s text) (done input s).state r new t
-  told-refused f t a b e = told_due (joined (Refused f) t a b) e
+  told-refused f t a b e = told_due (joined (Err f) t a b) e
 
-  pub told-listed : (k : ℕ) (t : State) (a b : List ℕ) → joined (Count k) t a b ≡ done input s
+  pub told-listed : (k : ℕ) (t : State) (a b : List ℕ) → joined (Ok k) t a b ≡ done input s
       → (r : ℕ) (new : List ℕ) → Told text (listed text start_number input a b k t) r new
       → Left text (shown input s text) (done input s).state r new t
-  told-listed k t a b e = told_due (joined (Count k) t a b) e
+  told-listed k t a b e = told_due (joined (Ok k) t a b) e
 
 -- the text lies within the buffer
 filled_long : (text t new : List ℕ) (r : ℕ) → Told text t r new → r ≤ length new
@@ -62,7 +61,7 @@ abbrev pub Answered : List ℕ → List ℕ → State → ℕ → List ℕ → S
 Answered text t s r new left = record { upper_bound : r ≤ length new; result_value : r ≡ length t; text_after : new ≡ filled t text; left_after : left ≡ s }
 
 -- where it is known what was read
-pub told-read : (page text : List ℕ) (s : State) (read known : Input) (r : ℕ) (new : List ℕ) (left : State) → read ≡ known
+pub told-read : (page text : List ℕ) (s : State) (read known : Result ℕ InputError) (r : ℕ) (new : List ℕ) (left : State) → read ≡ known
     → Left text (told known page s text) (told_state known page s) r new left
     → Answered text (told read page s text) (told_state read page s) r new left
 told-read page text s read known r new left e x =
@@ -74,11 +73,10 @@ told-read page text s read known r new left e x =
     })
 
 -- bytes that are known to be read lie within the buffer
-pub within : (read : Input) (n size : ℕ) → read ≡ Bytes n → Within read size → n ≤ size
+pub within : (read : Result ℕ InputError) (n size : ℕ) → read ≡ Ok n → Within read size → n ≤ size
 within read n size e h = rw e at h
 
 -- and within a longer one
-pub within_more : (read : Input) (m n : ℕ) → m ≤ n → Within read m → Within read n
-within_more (Bytes k) m n h w = omega arith
-within_more TooLong m n h w = tt
-within_more Unread m n h w = tt
+pub within_more : (read : Result ℕ InputError) (m n : ℕ) → m ≤ n → Within read m → Within read n
+within_more (Ok k) m n h w = omega arith
+within_more (Err e) m n h w = tt

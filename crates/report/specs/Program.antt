@@ -1,17 +1,16 @@
 -- Document 01, 'The listing': what the program writes for what it reads, its state and its lists as it makes them. Assumes nothing.
-use Rattle.std.specs.Prelude.{ℕ, ◌≤◌, List, [], take, replicate, pos}
+use Rattle.std.specs.Prelude.{ℕ, ◌≤◌, List, [], take, replicate, pos, Result, Ok, Err}
 use Rattle.refusals.specs.Outcome.{gives, refuses}
 use Rattle.ledger.specs.State.{State, state_of}
 use Rattle.planning.specs.Joined.{Joined, plan_and_commit}
 use Rattle.report.specs.Listing.{listed, refused}
-use Rattle.report.specs.declared.program.Input.{Input}
-use Rattle.report.specs.declared.program.Input.TheVariants.{Bytes, TooLong, Unread}
+use Rattle.report.specs.declared.program.InputError.{InputError}
+use Rattle.report.specs.declared.program.InputError.TheVariants.{TooLong, Failed}
 
 -- "A program reads pages from standard input into one buffer": the bytes read lie within a buffer so long
-abbrev pub Within : Input → ℕ → Type 0
-Within (Bytes n) size = n ≤ size
-Within TooLong size = Unit {0}
-Within Unread size = Unit {0}
+abbrev pub Within : Result ℕ InputError → ℕ → Type 0
+Within (Ok n) size = n ≤ size
+Within (Err e) size = Unit {0}
 
 -- "begins with 1024 absent keys"
 unfoldable pub start : State
@@ -35,13 +34,12 @@ shown input s text =
     ]
 
 -- what is written for what was read into a page buffer: "input beyond 32768 bytes gives 11", and a read that failed nothing
-abbrev pub told : Input → List ℕ → State → List ℕ → List ℕ
-told (Bytes n) page s text = shown (take n page) s text
-told TooLong page s text = refused text 11 0
-told Unread page s text = []
+abbrev pub told : Result ℕ InputError → List ℕ → State → List ℕ → List ℕ
+told (Ok n) page s text = shown (take n page) s text
+told (Err TooLong) page s text = refused text 11 0
+told (Err Failed) page s text = []
 
 -- and the state that is left
-abbrev pub told_state : Input → List ℕ → State → State
-told_state (Bytes n) page s = (done (take n page) s).state
-told_state TooLong page s = s
-told_state Unread page s = s
+abbrev pub told_state : Result ℕ InputError → List ℕ → State → State
+told_state (Ok n) page s = (done (take n page) s).state
+told_state (Err e) page s = s

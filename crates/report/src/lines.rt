@@ -1,165 +1,127 @@
-// The lines of the listing, each put into a lent buffer at a position; the answer is the position after it.
-ghost use Rattle.std.specs.Prelude.{◌+◌, ◌*◌, ◌≤◌, ◌<◌, ◌≡◌, [], length, get_or, eqb, cond};
-ghost use Rattle.lists.specs.Search.{first_in};
+// The lines of the listing, each put behind the text so far.
+ghost use Rattle.std.specs.Prelude.{◌+◌, ◌*◌, ◌≤◌, ◌<◌, ◌≡◌, [], length, get_or, position, eqb, cond};
 ghost use Rattle.lists.specs.Tables.{flat};
 ghost use Rattle.ledger.specs.Version.{is_present};
-ghost use Rattle.ledger.specs.State.{state_of};
+ghost use Rattle.ledger.specs.State.{lent, keys};
+ghost use Rattle.ledger.specs.Inner.{Level};
 ghost use Rattle.ledger.specs.Gate.{pages, tx_at};
-ghost use Rattle.report.specs.Put.{Put};
+ghost use Rattle.report.specs.Put.{Puts};
 ghost use Rattle.report.specs.Listing.{header, place_text, page_line, state_line, key_line, refusal};
 
-use crate::put;
+use crate::put::Text;
 use ledger::page::content;
-use ledger::{Entry, Version, layout, state};
+use ledger::{Entry, State, Version, layout};
 
 // The line of a refusal.
-pub fn put_refusal(out: &mut [u8], number: u32, place: u32) -> usize
-    requires { 64 ≤ length out.old }
-    ensures { (result ≤ 64) × Put out.old 0 (refusal number place) out.new result }
+pub fn put_refusal(text: &mut Text, number: u32, place: u32)
+    requires { text.old.end + 64 ≤ length text.old.out.now }
+    ensures { Puts 64 (refusal number place) text.old text.new }
 {
-    let first = put::put_bytes(out, 0, b"refused ");
-    let second = put::put_number(out, first, number);
-    let third = put::put_byte(out, second, b' ');
-    let fourth = put::put_number(out, third, place);
-    put::put_byte(out, fourth, b'\n')
+    text.put_bytes(b"refused ");
+    text.put_number(number);
+    text.put_byte(b' ');
+    text.put_number(place);
+    text.put_byte(b'\n');
 }
 
 // The first line.
-pub fn put_header(out: &mut [u8], n: u32, m: u32, k: u32) -> usize
-    requires { 64 ≤ length out.old }
-    ensures { (result ≤ 64) × Put out.old 0 (header n m k) out.new result }
+pub fn put_header(text: &mut Text, n: u32, m: u32, k: u32)
+    requires { text.old.end + 64 ≤ length text.old.out.now }
+    ensures { Puts 64 (header n m k) text.old text.new }
 {
-    let first = put::put_bytes(out, 0, b"block ");
-    let second = put::put_number(out, first, n);
-    let third = put::put_bytes(out, second, b" pages ");
-    let fourth = put::put_number(out, third, m);
-    let fifth = put::put_bytes(out, fourth, b" kept ");
-    let sixth = put::put_number(out, fifth, k);
-    put::put_byte(out, sixth, b'\n')
+    text.put_bytes(b"block ");
+    text.put_number(n);
+    text.put_bytes(b" pages ");
+    text.put_number(m);
+    text.put_bytes(b" kept ");
+    text.put_number(k);
+    text.put_byte(b'\n');
 }
 
-// The place of page `i` among the first `k` of the order; `k` where it has none.
-fn find_place(order: &[u8], k: usize, i: usize) -> usize
-    requires { k ≤ length order.now }
-    ensures { result ≡ first_in (λ j. eqb (get_or order.now j 0) i) 0 k }
+// The place of page `i` in the order.
+fn find_place(order: &[u8], i: usize) -> Option<usize>
+    ensures { result ≡ position (λ page. eqb page i) order.now }
 {
-    let mut j = 0;
-    while j < k {
-        if order[j] as usize == i {
-            return j;
-        }
-        j += 1;
-    }
-    k
+    order.iter().position(|page| *page as usize == i)
 }
 
 // That place, or a hyphen.
-fn put_place(out: &mut [u8], at: usize, order: &[u8], k: usize, i: usize) -> usize
-    requires at_in_bounds { at + 10 ≤ length out.old }
-    requires k_in_bounds { (k ≤ length order.now) × (k ≤ 64) }
-    ensures { (result ≤ at + 10) × Put out.old at (place_text order.now k i) out.new result }
+fn put_place(text: &mut Text, order: &[u8], i: usize)
+    requires room { text.old.end + 10 ≤ length text.old.out.now }
+    requires few { length order.now ≤ 64 }
+    ensures { Puts 10 (place_text order.now (length order.now) i) text.old text.new }
 {
-    let p = find_place(order, k, i);
-    if p < k {
-        return put::put_number(out, at, p as u32);
+    match find_place(order, i) {
+        Some(place) => text.put_number(place as u32),
+        None => text.put_byte(b'-'),
     }
-    put::put_byte(out, at, b'-')
 }
 
 // The line of page `i`.
-fn put_page(
-    out: &mut [u8],
-    at: usize,
-    ticket: u32,
-    verdict: u8,
-    order: &[u8],
-    k: usize,
-    i: usize,
-) -> usize
-    requires at_in_bounds { at + 32 ≤ length out.old }
-    requires k_in_bounds { (k ≤ length order.now) × (k ≤ 64) }
-    ensures { (result ≤ at + 32)
-        × Put out.old at (page_line ticket verdict (place_text order.now k i)) out.new result }
+fn put_page(text: &mut Text, ticket: u32, verdict: u8, order: &[u8], i: usize)
+    requires room { text.old.end + 32 ≤ length text.old.out.now }
+    requires few { length order.now ≤ 64 }
+    ensures { Puts 32 (page_line ticket verdict (place_text order.now (length order.now) i)) text.old text.new }
 {
-    let first = put::put_number(out, at, ticket);
-    let second = put::put_byte(out, first, b' ');
-    let third = put::put_word(out, second, verdict);
-    let fourth = put::put_byte(out, third, b' ');
-    let fifth = put_place(out, fourth, order, k, i);
-    put::put_byte(out, fifth, b'\n')
+    text.put_number(ticket);
+    text.put_byte(b' ');
+    text.put_word(verdict);
+    text.put_byte(b' ');
+    put_place(text, order, i);
+    text.put_byte(b'\n');
 }
 
 // The lines of the pages.
-pub fn put_pages(
-    out: &mut [u8],
-    at: usize,
-    batch: &[u8],
-    verdicts: &[u8],
-    order: &[u8],
-    k: usize,
-) -> usize
-    requires batch_in_bounds { at + 32 * pages batch.now ≤ length out.old }
-    requires batch_in_bounds_2 { (pages batch.now ≤ length verdicts.now) × (length batch.now ≤ 32768) }
-    requires k_in_bounds { (k ≤ length order.now) × (k ≤ 64) }
-    ensures { (result ≤ at + 32 * pages batch.now)
-        × Put out.old at (flat (pages batch.now)
-        (λ i. page_line (tx_at batch.now i).ticket (get_or verdicts.now i 0)
-        (place_text order.now k i))) out.new result }
+pub fn put_pages(text: &mut Text, batch: &[u8], verdicts: &[u8], order: &[u8])
+    requires room { text.old.end + 32 * pages batch.now ≤ length text.old.out.now }
+    requires batch_in_bounds { (pages batch.now ≤ length verdicts.now) × (length batch.now ≤ 32768) }
+    requires few { length order.now ≤ 64 }
+    ensures { let m = pages batch.now in
+        Puts (32 * m) (flat m (λ i. page_line (tx_at batch.now i).ticket (get_or verdicts.now i 0)
+        (place_text order.now (length order.now) i))) text.old text.new }
 {
     let m = batch.len() / layout::PAGE;
-    let mut next = at;
-    let mut i = 0;
-    while i < m {
+    for (i, verdict) in verdicts[..m].iter().enumerate() {
         let ticket = content::ticket(layout::page_at(batch, i));
-        next = put_page(out, next, ticket, verdicts[i], order, k, i);
-        i += 1;
+        put_page(text, ticket, *verdict, order, i);
     }
-    next
 }
 
 // The line of a key that is present.
-fn put_state(out: &mut [u8], at: usize, key: usize, version: Version, value: i64) -> usize
-    requires { (at + 60 ≤ length out.old) × (key < 1024) }
-    ensures { (result ≤ at + 60)
-        × Put out.old at (state_line key (record { version = version; value = value })) out.new result }
+fn put_state(text: &mut Text, key: usize, version: Version, value: i64)
+    requires { (text.old.end + 60 ≤ length text.old.out.now) × (key < 1024) }
+    ensures { Puts 60 (state_line key (record { version = version; value = value })) text.old text.new }
 {
-    let first = put::put_number(out, at, key as u32);
-    let second = put::put_byte(out, first, b' ');
-    let third = put::put_number(out, second, version.block);
-    let fourth = put::put_byte(out, third, b'.');
-    let fifth = put::put_number(out, fourth, version.place as u32);
-    let sixth = put::put_byte(out, fifth, b' ');
-    let seventh = put::put_tonnes(out, sixth, value);
-    put::put_byte(out, seventh, b'\n')
+    text.put_number(key as u32);
+    text.put_byte(b' ');
+    text.put_number(version.block);
+    text.put_byte(b'.');
+    text.put_number(version.place as u32);
+    text.put_byte(b' ');
+    text.put_tonnes(value);
+    text.put_byte(b'\n');
 }
 
 // The line of a key; nothing where it is not present.
-fn put_key(out: &mut [u8], at: usize, key: usize, e: Entry) -> usize
-    requires { (at + 60 ≤ length out.old) × (key < 1024) }
-    ensures { (result ≤ at + 60) × Put out.old at (cond (is_present e.version) (state_line key e) []) out.new result }
+fn put_key(text: &mut Text, key: usize, e: Entry)
+    requires { (text.old.end + 60 ≤ length text.old.out.now) × (key < 1024) }
+    ensures { Puts 60 (cond (is_present e.version) (state_line key e) []) text.old text.new }
 {
     let version = e.version;
-    if !version.is_present() {
-        return at;
+    if version.is_present() {
+        put_state(text, key, version, e.value);
     }
-    put_state(out, at, key, version, e.value)
 }
 
 // The lines of the keys.
-pub fn put_keys(out: &mut [u8], at: usize, blocks: &[u32], places: &[u16], values: &[i64]) -> usize
-    requires blocks_in_bounds { at + 60 * length blocks.now ≤ length out.old }
-    requires places_len { (length places.now ≡ length blocks.now) × (length values.now
-        ≡ length blocks.now) × (length blocks.now ≤ 1024) }
-    ensures { let s = state_of blocks.now places.now values.now in
-        (result ≤ at + 60 * length blocks.now)
-        × Put out.old at (flat (length blocks.now) (key_line s)) out.new result }
+pub fn put_keys(text: &mut Text, state: State<'_>)
+    requires room { text.old.end + 60 * keys (lent state) ≤ length text.old.out.now }
+    requires few { keys (lent state) ≤ 1024 }
+    requires level { Level (lent state) }
+    ensures { let s = lent state.entry in
+        Puts (60 * keys s) (flat (keys s) (key_line s)) text.old text.new }
 {
-    let mut next = at;
-    let mut key = 0;
-    while key < blocks.len() {
-        let entry = state::entry_at(blocks, places, values, key);
-        next = put_key(out, next, key, entry);
-        key += 1;
+    for key in 0..state.keys() {
+        put_key(text, key, state.entry(key));
     }
-    next
 }

@@ -1,10 +1,9 @@
-// What the lines are made of, each put into a lent buffer at a position; the answer is the position after it.
+// What the lines are made of, each put behind the text that a lent buffer holds so far.
 ghost use Rattle.std.specs.Prelude.{◌+◌, ◌≤◌, ◌≡◌, [], ◌∷◌, length};
 ghost use Rattle.tonnage.specs.Text.{text_of};
-ghost use Rattle.report.specs.Put.{Put};
+ghost use Rattle.report.specs.Put.{Puts};
 ghost use Rattle.report.specs.Listing.{decimal, verdict_word};
 
-use refusals::Answer;
 use tonnage::digits;
 
 // The word of a verdict: its letters in front, and how many they are.
@@ -14,7 +13,7 @@ struct Word {
     length: usize,
 }
 
-// The words of the verdicts from 0 on.
+// The words of the verdicts from 0 on: document 01's fixed table.
 const WORDS: [Word; 4] = [
     Word {
         text: *b"kept  ",
@@ -34,64 +33,69 @@ const WORDS: [Word; 4] = [
     },
 ];
 
-// One byte.
-pub fn put_byte(out: &mut [u8], at: usize, byte: u8) -> usize
-    requires { at + 1 ≤ length out.old }
-    ensures { (result ≡ at + 1) × Put out.old at (byte ∷ []) out.new result }
-{
-    out[at] = byte;
-    at + 1
+// The text in front of a lent buffer, and where it ends.
+#[derive(Drop)]
+pub struct Text<'a> {
+    pub out: &'a mut [u8],
+    pub end: usize,
 }
 
-// A text.
-pub fn put_bytes(out: &mut [u8], at: usize, text: &[u8]) -> usize
-    requires { at + length text.now ≤ length out.old }
-    ensures { (result ≡ at + length text.now) × Put out.old at text.now out.new result }
-{
-    let mut i = 0;
-    while i < text.len() {
-        out[at + i] = text[i];
-        i += 1;
+impl<'a> Text<'a> {
+    // No text yet.
+    pub fn new(out: &'a mut [u8]) -> Text<'a>
+        ensures same_buffer { result.out.ghost_name ≡ out.entry.ghost_name }
+        ensures empty { (result.end ≡ 0) × (result.out.now ≡ out.old) }
+    {
+        Text { out, end: 0 }
     }
-    at + i
-}
 
-// A number in decimal.
-pub fn put_number(out: &mut [u8], at: usize, n: u32) -> usize
-    requires { at + 10 ≤ length out.old }
-    ensures { (result ≤ at + 10) × Put out.old at (decimal n) out.new result }
-{
-    let count = digits::width(n as u64);
-    digits::put(out, at, count, n as u64);
-    at + count
-}
-
-// The word of a verdict; nothing for what is no verdict.
-pub fn put_word(out: &mut [u8], at: usize, verdict: u8) -> usize
-    requires { at + 6 ≤ length out.old }
-    ensures { (result ≤ at + 6) × Put out.old at (verdict_word verdict) out.new result }
-{
-    let row = verdict as usize;
-    if row >= WORDS.len() {
-        return at;
+    // One byte.
+    pub fn put_byte(&mut self, byte: u8)
+        requires { self.old.end + 1 ≤ length self.old.out.now }
+        ensures { Puts 1 (byte ∷ []) self.old self.new }
+    {
+        self.out[self.end] = byte;
+        self.end += 1;
     }
-    let word = WORDS[row];
-    let mut i = 0;
-    while i < word.length {
-        out[at + i] = word.text[i];
-        i += 1;
-    }
-    at + i
-}
 
-// A figure in tonnes.
-pub fn put_tonnes(out: &mut [u8], at: usize, value: i64) -> usize
-    requires { at + 25 ≤ length out.old }
-    ensures { (result ≤ at + 25) × Put out.old at (text_of value) out.new result }
-{
-    let written = tonnage::text::write_tonnage(&mut out[at..], value);
-    let Answer::Count { count: length } = written else {
-        return at;
-    };
-    at + length
+    // Bytes.
+    pub fn put_bytes(&mut self, bytes: &[u8])
+        requires { self.old.end + length bytes.now ≤ length self.old.out.now }
+        ensures { Puts (length bytes.now) bytes.now self.old self.new }
+    {
+        let end = self.end + bytes.len();
+        self.out[self.end..end].copy_from_slice(bytes);
+        self.end = end;
+    }
+
+    // A number in decimal.
+    pub fn put_number(&mut self, n: u32)
+        requires { self.old.end + 10 ≤ length self.old.out.now }
+        ensures { Puts 10 (decimal n) self.old self.new }
+    {
+        let count = digits::width(n as u64);
+        digits::put(self.out, self.end, count, n as u64);
+        self.end += count;
+    }
+
+    // The word of a verdict; nothing for what is no verdict.
+    pub fn put_word(&mut self, verdict: u8)
+        requires { self.old.end + 6 ≤ length self.old.out.now }
+        ensures { Puts 6 (verdict_word verdict) self.old self.new }
+    {
+        if let Some(word) = WORDS.get(verdict as usize) {
+            self.put_bytes(&word.text[..word.length]);
+        }
+    }
+
+    // A figure in tonnes.
+    pub fn put_tonnes(&mut self, value: i64)
+        requires { self.old.end + 25 ≤ length self.old.out.now }
+        ensures { Puts 25 (text_of value) self.old self.new }
+    {
+        let written = tonnage::text::write_tonnage(&mut self.out[self.end..], value);
+        if let Ok(length) = written {
+            self.end += length;
+        }
+    }
 }

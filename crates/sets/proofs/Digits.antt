@@ -1,15 +1,19 @@
 -- Laws of digits: what the machine's operations do to each. Only the proofs of this crate's own functions need them. Assumes nothing.
 use mathlib.Core.Path.{◌≡◌, refl, sym, ap, ◌∙◌}
 use mathlib.Core.Bool.{Bool, true, false, not, ◌&&◌, ◌||◌, and_self, and-true}
-use Prim.Native.Nat.{ℕ, zero, suc, ◌-◌, ◌/◌, ◌%◌, ◌^◌, ◌<◌, suc-le-suc}
-use native.Mathlib.Nat.{zero-lt-suc, mod-lt, div-one, zero-div, one-mul, pow-suc, mul-mod_left, le_of_suc-le-suc, not-suc-le-zero}
+use mathlib.Core.Logic.{⊎_elim}
+use Prim.Native.Nat.{ℕ, zero, suc, ◌-◌, ◌/◌, ◌%◌, ◌^◌, ◌≤◌, ◌<◌, suc-le-suc}
+use native.Mathlib.Nat.{zero-lt-suc, mod-lt, div-eq_of_lt, lt_of_lt_of_le, div-one, zero-div, one-mul, pow-suc, mul-mod_left, le_of_suc-le-suc, not-suc-le-zero}
 use borrow.Author.Tests.{eq-eqb, ne_eqb, eqb-true, eqb-false}
 use native.Mathlib.Numerals.{one-add}
 use native.Mathlib.Omega.{arith}
 use lib.Dec.{eqb, eqb-suc-zero, eqb-zero-suc, eqb-suc-suc}
-use lib.Pow.{shr-shr}
-use lib.Bits.{bit_and, bit_or, bit_xor, and_shr, or_shr, xor_shr, and_mod, or_mod, xor_mod, shifted_half}
+use lib.Pow.{shr-shr, pow_mono}
+use lib.Bits.{bit_and, bit_or, and_shr, or_shr, and_mod, or_mod, shifted_half}
 use lib.Count.{count_trailing_zeros, under}
+use mir.Syntax.{w64}
+use Rattle.std.proofs.lemmas.Bool.{cases_lt}
+use Rattle.std.proofs.lemmas.Nat.Bits.{bit_at_not}
 use Rattle.sets.specs.Set.{member}
 
 -- an operation that works digit by digit, and on a digit as f does
@@ -43,20 +47,29 @@ of_and = each bit_and and_shr and_mod ◌&&◌ refl refl refl refl
 pub of_or : (a b i : ℕ) → member (bit_or a b) i ≡ (member a i || member b i)
 of_or = each bit_or or_shr or_mod ◌||◌ refl refl refl refl
 
-unlike : Bool → Bool → Bool
-unlike true b = not b
-unlike false b = b
-
--- a and not b, as the code computes it
-pub of_minus : (a b i : ℕ) → member (bit_xor a (bit_and a b)) i ≡ (member a i && not (member b i))
-unfolding unlike
-of_minus a b i =
-    each bit_xor xor_shr xor_mod unlike refl refl refl refl a (bit_and a b) i
-    ∙ ap (unlike (member a i)) (of_and a b i) ∙ table (member a i) (member b i)
+-- `!b` of the machine has the digits below 64 that b has not
+of_not : (b i : ℕ) → b < 2 ^ 64 → i < 64 → member (2 ^ 64 - 1 - b) i ≡ not (member b i)
+unfolding member
+of_not b i h l = ap (λ (x : ℕ). eqb x 1) (bit_at_not w64 b i h l) ∙ other (b / 2 ^ i % 2) (mod-lt (b / 2 ^ i) (zero-lt-suc 1))
   where
-    table : (p q : Bool) → unlike p (p && q) ≡ (p && not q)
-    table true q = refl
-    table false q = refl
+    other : (d : ℕ) → d < 2 → eqb (1 - d) 1 ≡ not (eqb d 1)
+    other zero p = refl
+    other (suc zero) p = refl
+    other (suc (suc d)) p = absurd (omega arith)
+
+-- no number of 64 bits has a digit from 64 on
+beyond : (a i : ℕ) → a < 2 ^ 64 → 64 ≤ i → member a i ≡ false
+unfolding member
+beyond a i h l = ap (λ (x : ℕ). eqb (x % 2) 1) (div-eq_of_lt (lt_of_lt_of_le h (pow_mono l)))
+
+pub of_minus : (a b i : ℕ) → a < 2 ^ 64 → b < 2 ^ 64 → member (bit_and a (2 ^ 64 - 1 - b)) i ≡ (member a i && not (member b i))
+of_minus a b i h k = of_and a (2 ^ 64 - 1 - b) i ∙ ⊎_elim below from (cases_lt i 64)
+  where
+    below : i < 64 → (member a i && member (2 ^ 64 - 1 - b) i) ≡ (member a i && not (member b i))
+    below l = ap (λ t. member a i && t) (of_not b i k l)
+
+    from : 64 ≤ i → (member a i && member (2 ^ 64 - 1 - b) i) ≡ (member a i && not (member b i))
+    from l = rw (beyond a i h l)
 
 -- digit by digit, from the lowest
 pub low : (m : ℕ) → member m 0 ≡ eqb (m % 2) 1

@@ -63,6 +63,11 @@ within k m i h e = lt_of_not-le (λ l. clash (sym e ∙ ap (λ (x : ℕ). eqb (x
 pub some : (k m : ℕ) → 0 < m → m < 2 ^ k → (i : ℕ) × (member m i ≡ true)
 some k m p h = (_, (of_trailing k m p h).1)
 
+-- one that has a member is not 0
+pub nonzero : (m i : ℕ) → member m i ≡ true → 0 < m
+nonzero zero i e = absurd (clash (sym e ∙ none i))
+nonzero (suc m) i e = zero-lt-suc m
+
 -- sizes: of sets that agree below n, of 0, and of a set without one of its members
 pub size_same : (m r n : ℕ) → ((j : ℕ) → j < n → member m j ≡ member r j) → how_many m n ≡ how_many r n
 unfolding how_many

@@ -1,19 +1,23 @@
 -- Numbers and the runs of digits that write them: each gives the other back. Assumes nothing.
-use mathlib.Core.Path.{◌≡◌, refl, sym, ◌∙◌}
-use mathlib.Core.Bool.{Bool, true, false, ◌&&◌}
+use mathlib.Core.Path.{◌≡◌, refl, sym, ap, ◌∙◌}
+use mathlib.Core.Bool.{Bool, true, false, not, ◌&&◌, false≢true}
 use mathlib.Core.List.{List, [], ◌∷◌, ◌++◌}
 use Prim.Native.Nat.{ℕ, zero, suc, ◌+◌, ◌-◌, ◌*◌, ◌/◌, ◌%◌, ◌≤◌, ◌<◌}
 use native.Mathlib.Nat.{le_refl}
+use native.Mathlib.Numerals.{add-one}
 use native.Mathlib.Omega.{arith}
-use lib.ListN.{length, get_or, take, length-append, get_or-append}
-use lib.Seq.{length-take-le, take_all, take-suc}
+use lib.ListN.{length, get_or, take, drop, length-append, get_or-append}
+use lib.Seq.{slice, slice_empty, slice-cons, length-take-le, take_all, take-suc}
 use lib.Dec.{eqb, leb, ltb}
 use borrow.Author.Tests.{ltb-true, ltb-false, le-leb, leb-true, eq-eqb, eqb-true}
-use Rattle.tonnage.specs.Text.{follow, digits, width}
+use Rattle.std.specs.List.{list_all}
 use Rattle.lists.specs.Members.{all}
+use Rattle.lists.specs.Search.{first_in, some_in}
+use Rattle.lists.proofs.Searches.{miss, done, passed}
+use Rattle.tonnage.specs.Text.{other, follow, digits, width}
 use Rattle.tonnage.specs.Grammar.{digit}
-use Rattle.tonnage.proofs.Laying.{and_both}
-use Rattle.tonnage.proofs.Runs.{width_one, width-more, width_some, length_digits}
+use Rattle.tonnage.proofs.Laying.{and_both, cut}
+use Rattle.tonnage.proofs.Runs.{digit_range, no_other, follow-last, width_one, width-more, width_some, length_digits}
 
 -- ---- lists by their last element, numbers by their last digit
 
@@ -47,6 +51,43 @@ digit_in c e = let b = and_both (leb 48 c) (leb c 57) e in (leb-true 48 c b.0, l
 pub in_digit : (c : ℕ) → 48 ≤ c → c ≤ 57 → digit c ≡ true
 in_digit c h k = rw (le-leb 48 c h, le-leb c 57 k)
 
+-- ---- searches for another character than a digit
+
+pub passed-each : (k i to : ℕ) (text : List ℕ) → to ≡ i + k → to ≤ length text → to ≤ first_in (other text) i to → all digit (slice i to text) ≡ true
+passed-each zero i to text e h f = let same : to ≡ i = omega arith in rw (same, slice_empty i text)
+passed-each (suc k) i to text e h f =
+    let l : i < to = omega arith in
+    let p = passed (other text) i to l f in
+    let r = digit_range (get_or text i 0) p.0 in
+    rw (slice-cons i to text 0 l h, in_digit (get_or text i 0) r.0 r.1) (passed-each k (suc i) to text (omega arith) h (rw add-one at p.1))
+
+pub each-passed : (k i to : ℕ) (text : List ℕ) → to ≡ i + k → to ≤ length text → all digit (slice i to text) ≡ true → to ≤ first_in (other text) i to
+each-passed zero i to text e h d = let same : i ≡ to = omega arith in rw (same, done (other text) to) (omega arith)
+each-passed (suc k) i to text e h d =
+    let l : i < to = omega arith in
+    let b = and_both (digit (get_or text i 0)) (all digit (slice (suc i) to text)) (rw (slice-cons i to text 0 l h) at d) in
+    let r = digit_in (get_or text i 0) b.0 in
+    rw (miss (other text) i to l (no_other (get_or text i 0) r.0 r.1), add-one) (each-passed k (suc i) to text (omega arith) h b.1)
+
+-- the test that the code makes of a part of a text
+std_all : (q : ℕ → Bool) (xs : List ℕ) → list_all q xs ≡ all q xs
+std_all q [] = refl
+std_all q (x ∷ xs) = ap (λ b. q x && b) (std_all q xs)
+
+pub only_digits : (text : List ℕ) (s p : ℕ) → s ≤ p → p ≤ length text → list_all digit (take (p - s) (drop s text)) ≡ not (some_in (other text) s p)
+only_digits text s p h w = std_all digit (take (p - s) (drop s text)) ∙ ap (all digit) (sym (cut text s p h)) ∙ go (some_in (other text) s p) refl (all digit (slice s p text)) refl
+  where
+    whole : p ≡ s + (p - s)
+    whole = omega arith
+
+    go : (b : Bool) → some_in (other text) s p ≡ b → (a : Bool) → all digit (slice s p text) ≡ a → a ≡ not b
+    go true e true d = absurd (omega (arith, ltb-true _ _ e, each-passed (p - s) s p text whole w d))
+    go true e false d = refl
+    go false e true d = refl
+    go false e false d = absurd (false≢true (sym d ∙ passed-each (p - s) s p text whole w (ltb-false _ _ e)))
+
+-- ---- lists that are all of one kind
+
 pub all_append : (p : ℕ → Bool) (a b : List ℕ) → all p (a ++ b) ≡ (all p a && all p b)
 all_append p [] b = refl
 all_append p (c ∷ a) b = rw (all_append p a b) (go (p c))
@@ -59,15 +100,6 @@ all-last : (p : ℕ → Bool) (init : List ℕ) (d : ℕ) → all p (init ++ (d 
 all-last p init d e =
     let b = and_both (all p init) (all p (d ∷ [])) (sym (all_append p init (d ∷ [])) ∙ e) in
     (b.0, (and_both (p d) true b.1).0)
-
-pub follow-append : (n : ℕ) (a b : List ℕ) → follow n (a ++ b) ≡ follow (follow n a) b
-unfolding follow
-follow-append n [] b = refl
-follow-append n (c ∷ a) b = follow-append (10 * n + (c - 48)) a b
-
-follow-last : (n : ℕ) (init : List ℕ) (d : ℕ) → follow n (init ++ (d ∷ [])) ≡ 10 * follow n init + (d - 48)
-unfolding follow
-follow-last n init d = follow-append n init (d ∷ [])
 
 follow-least : (n : ℕ) (ds : List ℕ) → n ≤ follow n ds
 unfolding follow

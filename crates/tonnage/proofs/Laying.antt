@@ -1,15 +1,15 @@
 -- Laws of texts that are laid out well: the tests of `laid` as facts, and each test that fails. Assumes nothing.
-use mathlib.Core.Path.{◌≡◌, refl, sym}
-use mathlib.Core.Bool.{Bool, true, false, not, ◌&&◌, false≢true, cond}
+use mathlib.Core.Path.{◌≡◌, refl, ap, ◌∙◌}
+use mathlib.Core.Bool.{Bool, true, false, not, ◌&&◌, ◌||◌, false≢true, cond}
 use mathlib.Core.List.{List}
-use Prim.Native.Nat.{ℕ, ◌+◌, ◌≤◌, ◌<◌, min}
+use Prim.Native.Nat.{ℕ, ◌+◌, ◌-◌, ◌≤◌, ◌<◌, min}
 use native.Mathlib.Omega.{arith}
-use lib.ListN.{length, get_or}
+use lib.ListN.{length, get_or, take, drop}
 use lib.Seq.{slice}
 use lib.Dec.{eqb, ltb}
-use borrow.Author.Tests.{lt-ltb, le-ltb, ltb-true, ltb-false, eq-eqb, ne_eqb, eqb-true, eqb-false, not-true}
-use Rattle.lists.specs.Search.{first_in}
-use Rattle.lists.proofs.Searches.{within}
+use borrow.Author.Tests.{lt-ltb, le-ltb, ltb-true, ltb-false, eq-eqb, eqb-true, eqb-false, not-true}
+use Rattle.std.proofs.lemmas.List.{drop-take}
+use Rattle.lists.specs.Search.{first_in, some_in}
 use Rattle.tonnage.specs.Text.{minus, tonnes_at, point, other, laid, magnitude, follow, too_large}
 use Rattle.tonnage.proofs.Runs.{held}
 
@@ -70,47 +70,39 @@ unfolding laid
 facts_laid text l =
     rw (lt-ltb _ _ l.long, le-ltb _ _ l.whole, lean_test _ _ _ l.lean, eq-eqb _ _ l.comma, le-ltb _ _ l.part)
 
--- ---- each test that fails, as code meets it
+-- ---- as code tests it
 
-module _ (text : List ℕ) (s : ℕ) (e : s ≡ tonnes_at text) where
-  pub short : length text ≤ s + 4 → false ≡ laid text
-  unfolding laid
-  short h = simp (le-ltb (tonnes_at text) (point text) (omega arith))
+-- a text of four characters behind the sign, or fewer
+pub short : (text : List ℕ) (s : ℕ) → s ≡ tonnes_at text → length text ≤ s + 4 → false ≡ laid text
+unfolding laid
+short text s e h = simp (le-ltb (tonnes_at text) (point text) (omega arith))
 
-  pub stray : (x : ℕ) → x ≡ first_in (other text) s (point text) → x < point text → false ≡ laid text
-  unfolding laid
-  stray x f h = simp (lt-ltb (first_in (other text) (tonnes_at text) (point text)) (point text) (rw (f, e) at h), and-false)
+-- no zero in front, or one alone
+lean_same : (a s p : ℕ) → s < p → not (eqb a 48 && ltb (s + 1) p) ≡ (not (eqb a 48) || eqb (s + 1) p)
+lean_same a s p h = go (eqb a 48) (eqb (s + 1) p) refl
+  where
+    go : (z b : Bool) → eqb (s + 1) p ≡ b → not (z && ltb (s + 1) p) ≡ (not z || b)
+    go false b e = refl
+    go true true e = rw (le-ltb (s + 1) p (omega (arith, eqb-true (s + 1) p e)))
+    go true false e = rw (lt-ltb (s + 1) p (omega (arith, eqb-false (s + 1) p e)))
 
-  pub padded : get_or text s 0 ≡ 48 → s + 1 < point text → false ≡ laid text
-  unfolding laid
-  padded h k = simp (eq-eqb (get_or text (tonnes_at text) 0) 48 (rw e at h), lt-ltb (tonnes_at text + 1) (point text) (rw e at k), and-false)
-
-  pub no_comma : (get_or text (point text) 0 ≡ 44 → ⊥) → false ≡ laid text
-  unfolding laid
-  no_comma h = simp (ne_eqb (get_or text (point text) 0) 44 h, and-false)
-
-  -- the last test decides
-  pub decided : s < point text → point text ≤ first_in (other text) s (point text) → (get_or text s 0 ≡ 48 → point text ≤ s + 1)
-      → get_or text (point text) 0 ≡ 44 → (y : ℕ) → y ≡ first_in (other text) (point text + 1) (length text) → eqb y (length text) ≡ laid text
-  unfolding laid
-  decided long whole lean comma y f = go (eqb y (length text)) refl
-    where
-      go : (b : Bool) → eqb y (length text) ≡ b → b ≡ laid text
-      go true q =
-          sym (facts_laid text (record {
-            long = rw e at long;
-            whole = rw e at whole;
-            lean = rw e at lean;
-            comma = comma;
-            part = omega (arith, eqb-true y (length text) q);
-          }))
-      go false q =
-          let less : y < length text = omega (arith, within (other text) (point text + 1) (length text) (omega arith), eqb-false y (length text) q) in
-          simp (lt-ltb (first_in (other text) (point text + 1) (length text)) (length text) (rw f at less), and-false)
+-- the tests of a longer one
+pub tests : (text : List ℕ) (s : ℕ) → s ≡ tonnes_at text → s < point text → (whole part : Bool)
+    → whole ≡ not (some_in (other text) s (point text)) → part ≡ not (some_in (other text) (point text + 1) (length text))
+    → (whole && (not (eqb (get_or text s 0) 48) || eqb (s + 1) (point text)) && eqb (get_or text (point text) 0) 44 && part) ≡ laid text
+unfolding laid
+tests text s e long whole part f g =
+    rw (f, g, ← lean_same (get_or text s 0) s (point text) long, e, lt-ltb (tonnes_at text) (point text) (rw e at long))
 
 -- ---- the magnitude, held at most at `too_large`
 
-pub size-held : (text : List ℕ) (s w r : ℕ) → s ≡ tonnes_at text → w ≡ min too_large (follow 0 (slice s (point text) text))
+-- a part of a text, as the code cuts it out
+pub cut : (text : List ℕ) (s p : ℕ) → s ≤ p → slice s p text ≡ take (p - s) (drop s text)
+cut text s p h = let e : p ≡ s + (p - s) = omega arith in ap (λ n. drop s (take n text)) e ∙ drop-take s (p - s) text
+
+pub size-held : (text : List ℕ) (s w r : ℕ) → s ≡ tonnes_at text
+    → w ≡ min too_large (follow 0 (slice s (point text) text))
     → r ≡ min too_large (follow w (slice (point text + 1) (length text) text)) → r ≡ min too_large (magnitude text)
 unfolding magnitude
-size-held text s w r e f g = rw (g, f, e) (held (follow 0 (slice (tonnes_at text) (point text) text)) (slice (point text + 1) (length text) text))
+size-held text s w r e f g =
+    rw (g, f, e) (held (follow 0 (slice (tonnes_at text) (point text) text)) (slice (point text + 1) (length text) text))

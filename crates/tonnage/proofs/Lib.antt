@@ -1,5 +1,4 @@
 pub mod Runs
-pub mod Signs
 pub mod Laying
 pub mod Answers
 pub mod Decimal

@@ -1,15 +1,15 @@
 -- Laws of runs of decimal digits: what they write, how many a number has, and how they are stored. Assumes nothing.
 use mathlib.Core.Path.{◌≡◌, refl, sym, ap, ◌∙◌}
 use mathlib.Core.Bool.{Bool, true, false, ◌||◌, true≢false}
-use mathlib.Core.List.{List, [], ◌∷◌}
+use mathlib.Core.List.{List, [], ◌∷◌, ◌++◌}
 use Prim.Native.Nat.{ℕ, zero, suc, ◌+◌, ◌-◌, ◌*◌, ◌/◌, ◌%◌, ◌^◌, ◌≤◌, ◌<◌, min}
-use native.Mathlib.Nat.{div-lt_iff_lt-mul, pow-suc, le_antisymm}
-use native.Mathlib.Numerals.{add-one}
+use native.Mathlib.Nat.{div-lt_iff_lt-mul, pow-suc, one-le-pow}
 use native.Mathlib.Omega.{arith}
-use lib.ListN.{length, set, get_or, length-append}
-use lib.Seq.{sets, slice, slice-cons, slice_empty}
+use lib.ListN.{length, set, get_or, take, length-append}
+use lib.Seq.{sets, slice, length-take-le}
 use lib.Dec.{ltb, lit<}
 use borrow.Author.Tests.{lt-ltb, le-ltb, ltb-true, ltb-false}
+use Rattle.std.proofs.lemmas.List.{take_more, drop-append-le}
 use Rattle.lists.proofs.Stores.{sets_append, set_after}
 use Rattle.tonnage.specs.Text.{follow, digits, width_in, width, too_large}
 
@@ -23,16 +23,21 @@ held a (c ∷ cs) =
     let e : min too_large (10 * min too_large a + (c - 48)) ≡ min too_large (10 * a + (c - 48)) = omega arith in
     sym (held (10 * min too_large a + (c - 48)) cs) ∙ rw e (held (10 * a + (c - 48)) cs)
 
--- one digit read, and none left
-pub follow-step : (text : List ℕ) (i to n r : ℕ) → i < to → to ≤ length text → r ≡ min too_large (10 * n + (get_or text i 0 - 48))
-    → min too_large (follow n (slice i to text)) ≡ min too_large (follow r (slice (i + 1) to text))
+-- one digit more
+pub follow-append : (n : ℕ) (a b : List ℕ) → follow n (a ++ b) ≡ follow (follow n a) b
 unfolding follow
-follow-step text i to n r h k e =
-    rw (e, add-one, slice-cons i to text 0 h k) (sym (held (10 * n + (get_or text i 0 - 48)) (slice (suc i) to text)))
+follow-append n [] b = refl
+follow-append n (c ∷ a) b = follow-append (10 * n + (c - 48)) a b
 
-pub follow_end : (text : List ℕ) (i to n : ℕ) → i ≤ to → to ≤ i → n ≤ too_large → min too_large (follow n (slice i to text)) ≡ n
+pub follow-last : (n : ℕ) (init : List ℕ) (d : ℕ) → follow n (init ++ (d ∷ [])) ≡ 10 * follow n init + (d - 48)
 unfolding follow
-follow_end text i to n h k l = rw (le_antisymm h k, slice_empty to text) (omega arith)
+follow-last n init d = follow-append n init (d ∷ [])
+
+pub follow_more : (n : ℕ) (text : List ℕ) (from i s r : ℕ) → from ≤ i → i < length text → s ≡ min too_large (follow n (slice from i text))
+    → r ≡ min too_large (10 * s + (get_or text i 0 - 48)) → r ≡ min too_large (follow n (slice from (i + 1) text))
+follow_more n text from i s r l h e f =
+    let k : from ≤ length (take i text) = omega (arith, length-take-le i text (omega arith)) in
+    rw (take_more text i 0 h, drop-append-le from (take i text) (get_or text i 0 ∷ []) k, follow-last n (slice from i text) (get_or text i 0)) (omega arith)
 
 -- what is no other character is a digit
 pub digit_range : (c : ℕ) → (ltb c 48 || ltb 57 c) ≡ false → (48 ≤ c) × (c ≤ 57)
@@ -90,15 +95,23 @@ narrow (suc k) n h = go (ltb n 10) refl (narrow k (n / 10))
         let smaller : n / 10 < 10 ^ suc k = (div-lt_iff_lt-mul (lit< tt)).1 (rw pow-suc at h) in
         omega (arith, width-more n (ltb-false n 10 e), ih smaller)
 
-pub width_64 : (n : ℕ) → n < 2 ^ 64 → width n ≤ 20
-width_64 n h = narrow 19 n (omega arith)
-
 pub width_some : (n : ℕ) → 0 < width n
 width_some n = go (ltb n 10) refl
   where
     go : (b : Bool) → ltb n 10 ≡ b → 0 < width n
     go true e = omega (arith, width_one n (ltb-true n 10 e))
     go false e = omega (arith, width-more n (ltb-false n 10 e))
+
+-- and each from 10 to the k on has more than k
+wide : (k n : ℕ) → 10 ^ k ≤ n → k < width n
+wide zero n h = width_some n
+wide (suc k) n h =
+    let tens : 10 ^ k * 10 ≤ n = rw pow-suc at h in
+    let ten : 10 ≤ n = omega (arith, one-le-pow k 10 (lit< tt)) in
+    omega (arith, width-more n ten, wide k (n / 10) (omega arith))
+
+pub width_between : (k n : ℕ) → 10 ^ k ≤ n → n < 10 * 10 ^ k → width n ≡ k + 1
+width_between k n h l = omega (arith, wide k n h, narrow k n (rw pow-suc (omega arith)))
 
 -- ---- runs in a text
 

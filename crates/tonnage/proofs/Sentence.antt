@@ -10,7 +10,8 @@ use Rattle.tonnage.specs.Text.{form, follow}
 use Rattle.lists.specs.Members.{all}
 use Rattle.tonnage.specs.Grammar.{digit, Tonnage}
 use Rattle.tonnage.proofs.Answers.{sign_text}
-use Rattle.tonnage.proofs.Decimal.{all_append, follow-append, zeros-follow, follow-zeros}
+use Rattle.tonnage.proofs.Runs.{follow-append}
+use Rattle.tonnage.proofs.Decimal.{all_append, zeros-follow, follow-zeros}
 use Rattle.tonnage.proofs.Spelling.{Spelt, spelt-form, form-spelt}
 
 holds : (b : Bool) → T b → b ≡ true

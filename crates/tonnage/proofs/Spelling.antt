@@ -2,41 +2,20 @@
 use mathlib.Core.Path.{◌≡◌, refl, sym, ap, ap₂, ◌∙◌}
 use mathlib.Core.Bool.{Bool, true, false, not, ◌&&◌, true≢false, cond}
 use mathlib.Core.List.{List, [], ◌∷◌, ◌++◌, append_assoc}
-use Prim.Native.Nat.{ℕ, zero, suc, ◌+◌, ◌-◌, ◌≤◌, ◌<◌}
+use Prim.Native.Nat.{ℕ, ◌+◌, ◌-◌, ◌≤◌, ◌<◌}
 use native.Mathlib.Nat.{add-zero}
 use native.Mathlib.Numerals.{add-one}
 use native.Mathlib.Omega.{arith}
 use lib.ListN.{length, get_or, take, drop, length-append, take-append-drop, get_or-append}
-use lib.Seq.{slice, slice_empty, slice-cons, length-slice, take-length, take_at, drop_at, get_or_at, get_or-append-add, take-take, drop-cons}
+use lib.Seq.{slice, slice-cons, length-slice, take-length, take_at, drop_at, get_or_at, get_or-append-add, take-take, drop-cons}
 use lib.Dec.{eqb}
 use borrow.Author.Tests.{eqb-true, eqb-false, ne_eqb, not-true}
-use Rattle.lists.specs.Search.{first_in}
-use Rattle.lists.proofs.Searches.{miss, done, passed}
-use Rattle.tonnage.specs.Text.{minus, tonnes_at, point, other, follow, magnitude, laid, form, signed, figure}
+use Rattle.tonnage.specs.Text.{minus, tonnes_at, point, follow, magnitude, laid, form, signed, figure}
 use Rattle.lists.specs.Members.{all}
 use Rattle.tonnage.specs.Grammar.{digit}
-use Rattle.tonnage.proofs.Runs.{digit_range, no_other}
 use Rattle.tonnage.proofs.Laying.{and_both, Laid, laid_facts, facts_laid}
 use Rattle.tonnage.proofs.Answers.{sign_text}
-use Rattle.tonnage.proofs.Decimal.{digit_in, in_digit}
-
--- ---- searches for another character than a digit
-
-passed-each : (k i to : ℕ) (text : List ℕ) → to ≡ i + k → to ≤ length text → to ≤ first_in (other text) i to → all digit (slice i to text) ≡ true
-passed-each zero i to text e h f = let same : to ≡ i = omega arith in rw (same, slice_empty i text)
-passed-each (suc k) i to text e h f =
-    let l : i < to = omega arith in
-    let p = passed (other text) i to l f in
-    let r = digit_range (get_or text i 0) p.0 in
-    rw (slice-cons i to text 0 l h, in_digit (get_or text i 0) r.0 r.1) (passed-each k (suc i) to text (omega arith) h (rw add-one at p.1))
-
-each-passed : (k i to : ℕ) (text : List ℕ) → to ≡ i + k → to ≤ length text → all digit (slice i to text) ≡ true → to ≤ first_in (other text) i to
-each-passed zero i to text e h d = let same : i ≡ to = omega arith in rw (same, done (other text) to) (omega arith)
-each-passed (suc k) i to text e h d =
-    let l : i < to = omega arith in
-    let b = and_both (digit (get_or text i 0)) (all digit (slice (suc i) to text)) (rw (slice-cons i to text 0 l h) at d) in
-    let r = digit_in (get_or text i 0) b.0 in
-    rw (miss (other text) i to l (no_other (get_or text i 0) r.0 r.1), add-one) (each-passed k (suc i) to text (omega arith) h b.1)
+use Rattle.tonnage.proofs.Decimal.{digit_in, passed-each, each-passed}
 
 -- ---- the parts of a spelt text
 

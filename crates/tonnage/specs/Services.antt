@@ -1,10 +1,8 @@
 -- What the two services on tonnage texts answer, for every input. Assumes nothing.
-use Rattle.std.specs.Prelude.{Bool, not, List, [], ◌∷◌, ℕ, ◌^◌, length, ltb, ℤ, pos, negsuc}
-use Rattle.refusals.specs.declared.Answer.{Answer}
-use Rattle.refusals.specs.Outcome.{Outcome, gives, refuses, outcome}
+use Rattle.std.specs.Prelude.{Bool, not, List, [], ◌∷◌, ℕ, ◌^◌, length, ltb, ℤ, pos, negsuc, Result}
+use Rattle.refusals.specs.declared.Refusal.{Refusal}
+use Rattle.refusals.specs.Outcome.{Outcome, outcome}
 use Rattle.refusals.specs.Fault.{Row, row, first, judged, after}
-use Rattle.tonnage.specs.declared.Reading.{Reading}
-use Rattle.tonnage.specs.declared.Reading.TheVariants.{Kilograms, Unread}
 use Rattle.lists.specs.Tables.{filled}
 use Rattle.tonnage.specs.Text.{form, figure, text_of}
 
@@ -23,11 +21,6 @@ read_rows text =
 unfoldable pub read_text : List ℕ → Outcome ℤ
 read_text text = judged (first (read_rows text)) (figure text)
 
--- the answer of the reader as an outcome
-abbrev pub read : Reading → Outcome ℤ
-read (Kilograms z) = gives z
-read (Unread r) = refuses r.number r.place
-
 -- what the writer answers, and what it leaves in the lent buffer
 pub record WrittenText : Type 0 where
   pub answer : Outcome ℕ
@@ -44,5 +37,5 @@ write_text buffer z =
     record { answer = judged wrong (length (text_of z)); text = after wrong (filled (text_of z) buffer) buffer }
 
 -- the answer of the writer as an outcome, with the buffer as it is at the end
-abbrev pub wrote : Answer → List ℕ → WrittenText
+abbrev pub wrote : Result ℕ Refusal → List ℕ → WrittenText
 wrote a buffer = record { answer = outcome a; text = buffer }

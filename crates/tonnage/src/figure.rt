@@ -1,6 +1,9 @@
 // A signed figure in kilograms as its sign, whole tonnes and three digits.
-ghost use Rattle.std.specs.Prelude.{◌≡◌, true, false, ◌≤◌, ◌<◌, nat_abs};
+ghost use Rattle.std.specs.Prelude.{◌≡◌, true, false, ◌≤◌, ◌<◌};
 ghost use Rattle.tonnage.specs.Text.{signed, below0, tonnes, rest};
+
+// The kilograms of a tonne.
+const TONNE: u64 = 1000;
 
 // The sign, the whole tonnes, and the kilograms beyond them: 0 to 999.
 #[derive(Clone, Copy)]
@@ -10,26 +13,15 @@ pub struct Parts {
     pub rest: u64,
 }
 
-// How large a figure is without its sign; the lowest figure has its place here.
-fn size(kilograms: i64) -> u64
-    ensures { result ≡ nat_abs kilograms }
-{
-    if kilograms >= 0 {
-        kilograms as u64
-    } else {
-        ((-1 - kilograms) as u64) + 1
-    }
-}
-
 // The parts of a figure.
 pub fn split(kilograms: i64) -> Parts
     ensures { result ≡ record { minus = below0 kilograms; tonnes = tonnes kilograms; rest = rest kilograms } }
 {
-    let size = size(kilograms);
+    let size = kilograms.unsigned_abs();
     Parts {
-        minus: kilograms < 0,
-        tonnes: size / 1000,
-        rest: size % 1000,
+        minus: kilograms.is_negative(),
+        tonnes: size / TONNE,
+        rest: size % TONNE,
     }
 }
 
@@ -40,7 +32,7 @@ pub fn with_sign(minus: bool, size: u64) -> i64
     ensures { result ≡ signed minus size }
 {
     if minus {
-        -1 - ((size - 1) as i64)
+        0i64.strict_sub_unsigned(size)
     } else {
         size as i64
     }

@@ -11,17 +11,14 @@ pub const TAIL: usize = 4;
 pub fn minus(text: &[u8]) -> bool
     ensures { result ≡ minus text.now }
 {
-    if text.len() == 0 {
-        return false;
-    }
-    text[0] == b'-'
+    text.starts_with(b"-")
 }
 
 // Where the whole tonnes begin.
 pub fn start(text: &[u8]) -> usize
     ensures { result ≡ tonnes_at text.now }
 {
-    if minus(text) { 1 } else { 0 }
+    usize::from(minus(text))
 }
 
 // Whether a text is an optional minus, whole tonnes without needless zeros, a comma and three digits.
@@ -33,16 +30,8 @@ pub fn laid(text: &[u8]) -> bool
         return false;
     }
     let point = text.len() - TAIL;
-    if digits::first_other(text, start, point) < point {
-        return false;
-    }
-    if text[start] == b'0' {
-        if start + 1 < point {
-            return false;
-        }
-    }
-    if text[point] != b',' {
-        return false;
-    }
-    digits::first_other(text, point + 1, text.len()) == text.len()
+    digits::all(&text[start..point])
+        && (text[start] != b'0' || start + 1 == point)
+        && text[point] == b','
+        && digits::all(&text[point + 1..])
 }

@@ -1,11 +1,11 @@
 // The services on tonnage texts.
 ghost use Rattle.std.specs.Prelude.{◌≡◌, true, min};
-ghost use Rattle.refusals.specs.Outcome.{refuses};
+ghost use Rattle.refusals.specs.Outcome.{outcome};
 ghost use Rattle.tonnage.specs.Text.{laid, magnitude, too_large};
-ghost use Rattle.tonnage.specs.Services.{read, read_text, wrote, write_text};
+ghost use Rattle.tonnage.specs.Services.{read_text, wrote, write_text};
 
-use crate::{Reading, digits, figure, form};
-use refusals::{Answer, Refusal};
+use crate::{digits, figure, form};
+use refusals::{Reason, Refusal};
 
 // The largest size of a figure with a minus, and of one without.
 const LOWEST: u64 = 9223372036854775808;
@@ -23,41 +23,30 @@ fn size(text: &[u8]) -> u64
     digits::follow(text, point + 1, text.len(), whole)
 }
 
-// A text that is refused.
-fn unread(number: u32) -> Reading
-    ensures { read result ≡ refuses number 0 }
-{
-    let refusal = Refusal { number, place: 0 };
-    Reading::Unread { refusal }
-}
-
 // Reads a text: refusals 18 and 19.
-pub fn read_tonnage(text: &[u8]) -> Reading
-    ensures { read result ≡ read_text text.now }
+pub fn read_tonnage(text: &[u8]) -> Result<i64, Refusal>
+    ensures { outcome result ≡ read_text text.now }
 {
     if !form::laid(text) {
-        return unread(refusals::TEXT_FORM);
+        return Err(Reason::TextForm.at(0));
     }
     let minus = form::minus(text);
     let size = size(text);
     if minus {
         if size == 0 {
-            return unread(refusals::TEXT_FORM);
+            return Err(Reason::TextForm.at(0));
         }
         if size > LOWEST {
-            return unread(refusals::TEXT_RANGE);
+            return Err(Reason::TextRange.at(0));
         }
-    } else {
-        if size > HIGHEST {
-            return unread(refusals::TEXT_RANGE);
-        }
+    } else if size > HIGHEST {
+        return Err(Reason::TextRange.at(0));
     }
-    let value = figure::with_sign(minus, size);
-    Reading::Kilograms { value }
+    Ok(figure::with_sign(minus, size))
 }
 
 // Writes a text to the front of a buffer: refusal 20.
-pub fn write_tonnage(text: &mut [u8], kilograms: i64) -> Answer
+pub fn write_tonnage(text: &mut [u8], kilograms: i64) -> Result<usize, Refusal>
     ensures { wrote result text.new ≡ write_text text.old kilograms }
 {
     let parts = figure::split(kilograms);
@@ -66,7 +55,7 @@ pub fn write_tonnage(text: &mut [u8], kilograms: i64) -> Answer
     let point = start + width;
     let length = point + form::TAIL;
     if text.len() < length {
-        return refusals::refused(refusals::TEXT_BUFFER, 0);
+        return Err(Reason::TextBuffer.at(0));
     }
     if parts.minus {
         text[0] = b'-';
@@ -74,5 +63,5 @@ pub fn write_tonnage(text: &mut [u8], kilograms: i64) -> Answer
     digits::put(text, start, width, parts.tonnes);
     text[point] = b',';
     digits::put(text, point + 1, 3, parts.rest);
-    Answer::Count { count: length }
+    Ok(length)
 }

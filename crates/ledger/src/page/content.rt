@@ -4,8 +4,17 @@ ghost use Rattle.ledger.specs.Tx.{read_of, write_of};
 ghost use Rattle.ledger.specs.Page.{page_tx, write_at};
 ghost use Rattle.ledger.specs.Inner.{Counted};
 
-use crate::{Read, Version, Write, layout};
+use crate::page::entry::PageEntry;
+use crate::{Counts, Read, Write, layout};
 use octets::bytes;
+
+// The bytes of a page whose counts are good. That all of it is good is a clause of the three functions that need it: a second
+// type would be longer.
+#[derive(Clone, Copy)]
+pub struct Page<'a> {
+    pub bytes: &'a [u8],
+    ghost counted: { Counted bytes.now },
+}
 
 // The ticket.
 pub fn ticket(page: &[u8]) -> u32
@@ -13,37 +22,6 @@ pub fn ticket(page: &[u8]) -> u32
     ensures { result ≡ (page_tx page.now).ticket }
 {
     bytes::le4(page, layout::TICKET)
-}
-
-// How many reads there are.
-pub fn reads(page: &[u8]) -> usize
-    requires { Counted page.now }
-    ensures { result ≡ length (page_tx page.now).reads }
-{
-    page[layout::READ_COUNT] as usize
-}
-
-// How many writes there are.
-pub fn writes(page: &[u8]) -> usize
-    requires { Counted page.now }
-    ensures { result ≡ length (page_tx page.now).writes }
-{
-    page[layout::WRITE_COUNT] as usize
-}
-
-// Read `i`.
-pub fn read(page: &[u8], i: usize) -> Read
-    requires counted { Counted page.now }
-    requires i_in_bounds { i < length (page_tx page.now).reads }
-    ensures { result ≡ read_of (page_tx page.now).reads i }
-{
-    let at = layout::read_start(i);
-    let place = bytes::le2(page, at + 2);
-    let block = bytes::le4(page, at + 4);
-    Read {
-        key: bytes::le2(page, at),
-        version: Version::at(block, place),
-    }
 }
 
 // The write in the bytes from `at` on.
@@ -58,11 +36,52 @@ pub fn write_at(page: &[u8], at: usize) -> Write
     }
 }
 
-// Write `i`.
-pub fn write(page: &[u8], i: usize) -> Write
-    requires counted { Counted page.now }
-    requires i_in_bounds { i < length (page_tx page.now).writes }
-    ensures { result ≡ write_of (page_tx page.now).writes i }
-{
-    write_at(page, layout::write_start(reads(page), i))
+impl Page<'_> {
+    // The ticket.
+    pub fn ticket(self) -> u32
+        ensures { result ≡ (page_tx self.entry.bytes.now).ticket }
+    {
+        ticket(self.bytes)
+    }
+
+    // How many reads there are.
+    pub fn reads(self) -> usize
+        ensures { result ≡ length (page_tx self.entry.bytes.now).reads }
+    {
+        self.bytes[layout::READ_COUNT] as usize
+    }
+
+    // How many writes there are.
+    pub fn writes(self) -> usize
+        ensures { result ≡ length (page_tx self.entry.bytes.now).writes }
+    {
+        self.bytes[layout::WRITE_COUNT] as usize
+    }
+
+    // Both counts.
+    pub(crate) fn counts(self) -> Counts
+        ensures { let x = page_tx self.entry.bytes.now in
+            result ≡ record { reads = length x.reads; writes = length x.writes } }
+    {
+        Counts {
+            reads: self.reads() as u32,
+            writes: self.writes() as u32,
+        }
+    }
+
+    // Read `i`.
+    pub fn read(self, i: usize) -> Read
+        requires { i < length (page_tx self.bytes.now).reads }
+        ensures { result ≡ read_of (page_tx self.entry.bytes.now).reads i }
+    {
+        Read::at(self.bytes, layout::read_start(i))
+    }
+
+    // Write `i`.
+    pub fn write(self, i: usize) -> Write
+        requires { i < length (page_tx self.bytes.now).writes }
+        ensures { result ≡ write_of (page_tx self.entry.bytes.now).writes i }
+    {
+        write_at(self.bytes, layout::write_start(self.reads(), i))
+    }
 }

@@ -1,11 +1,12 @@
 // A transaction as bytes, and the 512 bytes of a page filled in place.
-ghost use Rattle.std.specs.Prelude.{◌≡◌, ◌+◌, ◌*◌, ◌^◌, ◌≤◌, ◌<◌, length};
+ghost use Rattle.std.specs.Prelude.{◌≡◌, ◌+◌, ◌*◌, ◌^◌, ◌≤◌, ◌<◌, length, get_or};
 ghost use Rattle.std.proofs.lemmas.List.Edits.{sets};
 ghost use Rattle.lists.specs.Tables.{flat};
 ghost use Rattle.octets.specs.Bytes.{le, weighed};
-ghost use Rattle.ledger.specs.Tx.{value_tx, read_of, write_of};
+ghost use Rattle.ledger.specs.Tx.{value_tx};
 ghost use Rattle.ledger.specs.Page.{read_bytes, write_bytes, head_bytes, laid_of, size};
 
+use crate::page::entry::PageEntry;
 use crate::{Read, Transaction, Write, layout};
 use octets::{bytes, weight};
 
@@ -15,9 +16,8 @@ pub fn put_read(p: &mut [u8], at: usize, x: Read)
     ensures { p.new ≡ sets p.old at (read_bytes x) }
 {
     bytes::put(p, at, 2, x.key as u64);
-    let version = x.version;
-    bytes::put(p, at + 2, 2, version.place as u64);
-    bytes::put(p, at + 4, 4, version.block as u64);
+    bytes::put(p, at + 2, 2, x.version.place as u64);
+    bytes::put(p, at + 4, 4, x.version.block as u64);
 }
 
 // The twelve bytes of a write.
@@ -30,27 +30,14 @@ pub fn put_write(p: &mut [u8], at: usize, x: Write)
     bytes::put(p, at + 4, 8, bytes::bits(x.value));
 }
 
-// The bytes of the first `count` reads.
-fn put_reads(p: &mut [u8], at: usize, xs: [Read; layout::MOST_ENTRIES], count: usize)
-    requires { (count ≤ 32) × (at + 8 * count ≤ length p.old) }
-    ensures { p.new ≡ sets p.old at (flat count (λ i. read_bytes (read_of xs i))) }
+// The bytes of the first `count` entries, one after the other. By value and by index: of a slice the whole transaction
+// would be copied first.
+fn put_all<E: PageEntry>(p: &mut [u8], at: usize, xs: [E; layout::MOST_ENTRIES], count: usize)
+    requires { (count ≤ 32) × (at + E.SIZE * count ≤ length p.old) }
+    ensures { p.new ≡ sets p.old at (flat count (λ i. E.bytes (get_or xs i E.NONE))) }
 {
-    let mut i = 0;
-    while i < count {
-        put_read(p, at + layout::READ * i, xs[i]);
-        i += 1;
-    }
-}
-
-// The bytes of the first `count` writes.
-fn put_writes(p: &mut [u8], at: usize, xs: [Write; layout::MOST_ENTRIES], count: usize)
-    requires { (count ≤ 32) × (at + 12 * count ≤ length p.old) }
-    ensures { p.new ≡ sets p.old at (flat count (λ i. write_bytes (write_of xs i))) }
-{
-    let mut i = 0;
-    while i < count {
-        put_write(p, at + layout::WRITE * i, xs[i]);
-        i += 1;
+    for i in 0..count {
+        xs[i].put(p, at + E::SIZE * i);
     }
 }
 
@@ -72,13 +59,9 @@ pub fn lay(p: &mut [u8], t: Transaction)
     requires { (length p.old ≡ 512) × (t.r ≤ 32) × (t.w ≤ 32) × (size t.r t.w ≤ 500) }
     ensures { p.new ≡ sets p.old 0 (laid_of (value_tx t)) }
 {
-    let r = t.r;
-    let w = t.w;
-    let reads = t.reads;
-    let writes = t.writes;
-    put_head(p, r, w, t.ticket);
-    put_reads(p, layout::HEAD, reads, r);
-    put_writes(p, layout::writes_at(r), writes, w);
+    put_head(p, t.r, t.w, t.ticket);
+    put_all(p, layout::HEAD, t.reads, t.r);
+    put_all(p, layout::writes_at(t.r), t.writes, t.w);
 }
 
 // The whole page: the bytes that are laid out, and their check.

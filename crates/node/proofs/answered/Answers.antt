@@ -1,11 +1,13 @@
+use Rattle.std.specs.Prelude.{Result}
 use Rattle.node.specs.Word.{word}
 use Rattle.refusals.specs.Outcome.{outcome}
-use Rattle.refusals.specs.declared.Answer.{Answer}
+use Rattle.refusals.specs.declared.Refusal.{Refusal}
+use Prim.Native.Nat.{ℕ}
 use mathlib.Core.Path.{sym, ap, ◌∙◌}
 use Rattle.node.proofs.answered.Goals as goal
 
-pub returns-in-Count : goal.returns-in-Count
-returns-in-Count c = ap (λ (x : Answer). word (outcome x)) (sym c.in-Count.is)
+pub returns-in-Ok : goal.returns-in-Ok
+returns-in-Ok c = ap (λ (x : Result ℕ Refusal). word (outcome x)) (sym c.in-Ok.is)
 
-pub returns-in-Refused : goal.returns-in-Refused
-returns-in-Refused c = c.refused.ensures ∙ ap (λ (x : Answer). word (outcome x)) (sym c.in-Refused.is)
+pub returns-in-Err : goal.returns-in-Err
+returns-in-Err c = c.refused.ensures ∙ ap (λ (x : Result ℕ Refusal). word (outcome x)) (sym c.in-Err.is)

@@ -6,11 +6,11 @@ use lib.IntN.{ℤ}
 use Rattle.node.proofs.Worded.{text-read, text-not}
 use Rattle.node.proofs.nevolisca_read_tonnage.Goals as goal
 
-pub returns-in-Kilograms : goal.returns-in-Kilograms
-returns-in-Kilograms c =
-    ap (λ (z : ℤ). record { word = 0; kilograms = z }) (to_z-of_z {w = w64} {z = c.in-Kilograms.value} (record { sfits = omega arith }))
-    ∙ text-read _ _ _ c.read_tonnage.ensures _ c.in-Kilograms.is
+pub returns-in-Ok : goal.returns-in-Ok
+returns-in-Ok c =
+    ap (λ (z : ℤ). record { word = 0; kilograms = z }) (to_z-of_z {w = w64} {z = c.in-Ok.value} (record { sfits = omega arith }))
+    ∙ text-read _ _ _ c.read_tonnage.ensures _ c.in-Ok.is
 
-pub returns-in-Unread : goal.returns-in-Unread
-returns-in-Unread c =
-    text-not _ _ _ c.read_tonnage.ensures _ _ c.refused.ensures c.in-Unread.is
+pub returns-in-Err : goal.returns-in-Err
+returns-in-Err c =
+    text-not _ _ _ c.read_tonnage.ensures _ _ c.refused.ensures c.in-Err.is

@@ -12,7 +12,7 @@ use Rattle.node.proofs.nevolisca_write_page.Goals.{After-lay_writes, In_default}
 
 -- the counts are good
 none : (c : In_default) → first (count_rows c.count-r.result c.count-w.result) ≡ clear
-none c = sym c.count_fault-found.ensures ∙ ap finding c.in_default.is
+none c = sym c.count_fault.ensures ∙ ap finding c.in_default.is
 
 room : (c : In_default) → Roomy c.count-r.result c.count-w.result
 room c = roomy _ _ (none c)
@@ -21,15 +21,15 @@ room c = roomy _ _ (none c)
 draft : (c : After-lay_writes) → Drafted (lent_tx (record { head = c.args.head.now; read_keys = c.args.read_keys.now; read_places = c.args.read_places.now; read_blocks = c.args.read_blocks.now; write_keys = c.args.write_keys.now; write_kinds = c.args.write_kinds.now; write_values = c.args.write_values.now })) c.lay_writes.new.p
 unfolding lent_tx
 draft c =
-    lent_drafted (record { head = c.args.head.now; read_keys = c.args.read_keys.now; read_places = c.args.read_places.now; read_blocks = c.args.read_blocks.now; write_keys = c.args.write_keys.now; write_kinds = c.args.write_kinds.now; write_values = c.args.write_values.now }) _ _ c.count-r.ensures c.count-w.ensures (sym c.count_fault-found.ensures ∙ ap finding c.in_default.is) _ _ _ _
+    lent_drafted (record { head = c.args.head.now; read_keys = c.args.read_keys.now; read_places = c.args.read_places.now; read_blocks = c.args.read_blocks.now; write_keys = c.args.write_keys.now; write_kinds = c.args.write_kinds.now; write_values = c.args.write_values.now }) _ _ c.count-r.ensures c.count-w.ensures (sym c.count_fault.ensures ∙ ap finding c.in_default.is) _ _ _ _
     c.put_head.ensures.p_after c.lay_reads.ensures.p_after c.writes_at.ensures c.lay_writes.ensures.p_after
     c.put_head.ensures.ticket_bound c.lay_reads.ensures.by_index c.lay_writes.ensures.by_index
 
-pub returns-in-Found : goal.returns-in-Found
+pub returns-in-Err : goal.returns-in-Err
 unfolding lent_tx
-returns-in-Found c =
+returns-in-Err c =
     rw c.refused.ensures
-    (ap put_left (lent-refused (record { head = c.args.head.now; read_keys = c.args.read_keys.now; read_places = c.args.read_places.now; read_blocks = c.args.read_blocks.now; write_keys = c.args.write_keys.now; write_kinds = c.args.write_kinds.now; write_values = c.args.write_values.now }) _ _ c.count-r.ensures c.count-w.ensures _ _ _ _ (sym c.count_fault-found.ensures ∙ ap finding c.in-Found.is)))
+    (ap put_left (lent-refused (record { head = c.args.head.now; read_keys = c.args.read_keys.now; read_places = c.args.read_places.now; read_blocks = c.args.read_blocks.now; write_keys = c.args.write_keys.now; write_kinds = c.args.write_kinds.now; write_values = c.args.write_values.now }) _ _ c.count-r.ensures c.count-w.ensures _ _ _ _ (sym c.count_fault.ensures ∙ ap finding c.in-Err.is)))
 
 pub put_head-requires : goal.put_head-requires
 put_head-requires c = let r = room (goal.at.put_head-requires c).In_default in (search rules, r.few-reads, r.few-writes)
@@ -53,11 +53,16 @@ lay_writes-requires c =
       keys_len = search rules;
     }
 
-pub write_laid-requires : goal.write_laid-requires
-write_laid-requires c = (draft (goal.at.write_laid-requires c).After-lay_writes).counted
+pub invariant_of-page : goal.invariant_of-page
+invariant_of-page c = record { counted = (draft (goal.at.invariant_of-page c).After-lay_writes).counted }
 
-pub returns : goal.returns
+pub returns-in-Ok : goal.returns-in-Ok
 unfolding lent_tx
-returns c =
-    rw c.answered.ensures
-    (ap put_left (c.write_laid.ensures ∙ lent_written (record { head = c.args.head.now; read_keys = c.args.read_keys.now; read_places = c.args.read_places.now; read_blocks = c.args.read_blocks.now; write_keys = c.args.write_keys.now; write_kinds = c.args.write_kinds.now; write_values = c.args.write_values.now }) _ _ c.count-r.ensures c.count-w.ensures (none (goal.at.returns c).In_default) _ _ _ (draft (goal.at.returns c).After-lay_writes)))
+returns-in-Ok c =
+    ap put_left (c.in-Ok.ensures ∙ lent_written (record { head = c.args.head.now; read_keys = c.args.read_keys.now; read_places = c.args.read_places.now; read_blocks = c.args.read_blocks.now; write_keys = c.args.write_keys.now; write_kinds = c.args.write_kinds.now; write_values = c.args.write_values.now }) _ _ c.count-r.ensures c.count-w.ensures (none (goal.at.returns-in-Ok c).In_default) _ _ _ (draft (goal.at.returns-in-Ok c).After-lay_writes))
+
+pub returns-in-Err-write_laid : goal.returns-in-Err-write_laid
+unfolding lent_tx
+returns-in-Err-write_laid c =
+    rw c.refused-in-Err-write_laid.ensures
+    (ap put_left (c.in-Err-write_laid.ensures ∙ lent_written (record { head = c.args.head.now; read_keys = c.args.read_keys.now; read_places = c.args.read_places.now; read_blocks = c.args.read_blocks.now; write_keys = c.args.write_keys.now; write_kinds = c.args.write_kinds.now; write_values = c.args.write_values.now }) _ _ c.count-r.ensures c.count-w.ensures (none (goal.at.returns-in-Err-write_laid c).In_default) _ _ _ (draft (goal.at.returns-in-Err-write_laid c).After-lay_writes)))

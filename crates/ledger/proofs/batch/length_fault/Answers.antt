@@ -1,3 +1,4 @@
+use Rattle.refusals.proofs.Answers.{told}
 use Rattle.ledger.proofs.Gated.{too_long, too_odd, not_wrong}
 use Rattle.ledger.specs.Gate.{bytes_row}
 use Rattle.refusals.proofs.Rows.{row_there, one-clear}
@@ -8,12 +9,12 @@ use Rattle.ledger.proofs.batch.length_fault.Goals as goal
 pub returns-then-batch-gt-MOST_BYTES : goal.returns-then-batch-gt-MOST_BYTES
 returns-then-batch-gt-MOST_BYTES c =
     let b = c.args.batch.now in
-    c.found.ensures ∙ sym (row_there (bytes_row b) [] (too_long b c.if-batch-gt-MOST_BYTES.true))
+    (told c.at.ensures) ∙ sym (row_there (bytes_row b) [] (too_long b c.if-batch-gt-MOST_BYTES.true))
 
 pub returns-then-batch-ne0 : goal.returns-then-batch-ne0
 returns-then-batch-ne0 c =
     let b = c.args.batch.now in
-    c.found-then-batch-ne0.ensures ∙ sym (row_there (bytes_row b) [] (too_odd b c.if-batch-gt-MOST_BYTES.false c.if-batch-ne0.true))
+    (told c.at-then-batch-ne0.ensures) ∙ sym (row_there (bytes_row b) [] (too_odd b c.if-batch-gt-MOST_BYTES.false c.if-batch-ne0.true))
 
 pub returns : goal.returns
 returns c =

@@ -1,51 +1,41 @@
-use mathlib.Core.Path.{◌≡◌, ap, ◌∙◌}
+use mathlib.Core.Path.{◌≡◌, refl, ap, ◌∙◌}
 use Prim.Native.Nat.{◌+◌, ◌*◌, ◌≤◌, ◌<◌}
 use lib.ListN.{length}
 use Rattle.ledger.specs.declared.Write.{Write}
 use Rattle.ledger.specs.Page.{read_count, page_tx}
 use Rattle.ledger.specs.Tx.{write_of}
-use Rattle.ledger.specs.State.{state_of, store}
-use Rattle.ledger.specs.Inner.{Counted}
-use Rattle.ledger.proofs.Pages.{good-counted}
+use Rattle.ledger.specs.State.{held, keys, store}
 use Rattle.ledger.proofs.Rising.{below, write_kinds_lem}
 use Rattle.ledger.proofs.OnPage.{count-reads, count-writes, write_from}
+use borrow.Author.Rules.{rules}
 use Rattle.ledger.proofs.Commits.{writing_begins, writing_kept, writing_level, writing_turns, writing_ends}
 use native.Mathlib.Omega.{arith}
 use Rattle.ledger.proofs.commit.apply.Goals as goal
 use Rattle.ledger.proofs.commit.apply.Goals.{After-write_at-x, In-loop-j, Start}
 
-counted : (c : Start) → Counted c.args.page.now
-counted c = good-counted _ c.requires.ready.good
-
 -- a turn's index is one of a write
-within : (c : In-loop-j) → c.loop-j.j < length (page_tx c.args.page.now).writes
-within c = omega (arith, c.loop-j-test.true, c.writes-count.ensures)
+within : (c : In-loop-j) → c.loop-j.j < length (page_tx c.args.page.bytes.now).writes
+within c = omega (arith, c.loop-j-test.true, c.writes-j-end.ensures)
 
 -- the write of a turn: the writes start behind the reads
-wrote : (c : After-write_at-x) → c.write_at-x.result ≡ write_of (page_tx c.args.page.now).writes c.loop-j.j
+wrote : (c : After-write_at-x) → c.write_at-x.result ≡ write_of (page_tx c.args.page.bytes.now).writes c.loop-j.j
 wrote c =
-    let p = c.args.page.now in
+    let p = c.args.page.bytes.now in
     let behind : c.writes_at-from.result ≡ 8 + 8 * read_count p = omega (arith, c.writes_at-from.ensures, c.reads.ensures, count-reads p) in
-    c.write_at-x.ensures ∙ write_from p _ c.loop-j.j behind (omega (arith, c.loop-j-test.true, c.writes-count.ensures, count-writes p))
+    c.write_at-x.ensures ∙ write_from p _ c.loop-j.j behind (omega (arith, c.loop-j-test.true, c.writes-j-end.ensures, count-writes p))
 
 -- it lies within the page
 room : (c : In-loop-j) → c.writes_at-from.result + 12 * c.loop-j.j + 12 ≤ 512
 room c =
-    let p = c.args.page.now in
-    omega (arith, c.writes_at-from.ensures, c.reads.ensures, count-reads p, within c, count-writes p, (good-counted _ c.requires.ready.good).room)
-
-pub writes-count-requires : goal.writes-count-requires
-writes-count-requires c = counted (goal.at.writes-count-requires c).Start
-
-pub reads-requires : goal.reads-requires
-reads-requires c = counted (goal.at.reads-requires c).Start
+    let p = c.args.page.bytes.now in
+    omega (arith, c.writes_at-from.ensures, c.reads.ensures, count-reads p, within c, count-writes p, c.args.page.counted.room)
 
 pub writes_at-from-requires : goal.writes_at-from-requires
 writes_at-from-requires c =
-    omega (arith, c.reads.ensures, count-reads c.args.page.now, (counted (goal.at.writes_at-from-requires c).Start).few-reads)
+    omega (arith, c.reads.ensures, count-reads c.args.page.bytes.now, c.args.page.counted.few-reads)
 
 pub loop-j-init : goal.loop-j-init
-loop-j-init c = writing_begins _ _ _
+loop-j-init c = record { same_lists = (refl, refl, refl); written = writing_begins _ _ _ }
 
 pub overflow_mul-j : goal.overflow_mul-j
 overflow_mul-j c = omega (arith, room (goal.at.overflow_mul-j c).In-loop-j)
@@ -54,7 +44,7 @@ pub overflow_add-from : goal.overflow_add-from
 overflow_add-from c = omega (arith, room (goal.at.overflow_add-from c).In-loop-j)
 
 pub write_at-x-requires : goal.write_at-x-requires
-write_at-x-requires c = omega (arith, room (goal.at.write_at-x-requires c).In-loop-j, (counted (goal.at.write_at-x-requires c).Start).whole)
+write_at-x-requires c = omega (arith, room (goal.at.write_at-x-requires c).In-loop-j, c.args.page.counted.whole)
 
 pub left-requires : goal.left-requires
 left-requires c = record {
@@ -65,23 +55,22 @@ left-requires c = record {
 pub store-requires : goal.store-requires
 store-requires c =
     let k = ap (λ (x : Write). x.key) (wrote (goal.at.store-requires c).After-write_at-x) in
-    let l = (below (length c.args.blocks.now) (page_tx c.args.page.now) c.requires.ready.within).writes c.loop-j.j (within (goal.at.store-requires c).In-loop-j) in
-    let z = writing_level c.loop-j.invariant c.requires.level in
-    omega (arith, k, l, (writing_kept c.loop-j.invariant).blocks, z.places, z.values)
+    let l = (below (keys (held c.args.state.now)) (page_tx c.args.page.bytes.now) c.requires.ready.within).writes c.loop-j.j (within (goal.at.store-requires c).In-loop-j) in
+    record {
+      level = writing_level c.loop-j.invariant.written c.requires.level;
+      key_in_bounds = omega (arith, k, l, (writing_kept c.loop-j.invariant.written).blocks);
+    }
 
 pub loop-j-preserved : goal.loop-j-preserved
-loop-j-preserved c =
-    writing_turns c.loop-j.invariant c.write_at-x.result (state_of c.store.new.blocks c.store.new.places c.store.new.values) (within (goal.at.loop-j-preserved c).In-loop-j) (wrote (goal.at.loop-j-preserved c).After-write_at-x)
-    (c.store.ensures ∙ ap (store (state_of c.loop-j.blocks c.loop-j.places c.loop-j.values) c.write_at-x.result.key) c.left.ensures)
-
-pub shape_of-blocks : goal.shape_of-blocks
-shape_of-blocks c = (writing_kept c.loop-j.invariant).blocks
-
-pub shape_of-places : goal.shape_of-places
-shape_of-places c = (writing_kept c.loop-j.invariant).places
-
-pub shape_of-values : goal.shape_of-values
-shape_of-values c = (writing_kept c.loop-j.invariant).values
+loop-j-preserved c = record {
+  same_lists = search rules;
+  written =
+      writing_turns c.loop-j.invariant.written c.write_at-x.result (held c.store.new.self) (within (goal.at.loop-j-preserved c).In-loop-j) (wrote (goal.at.loop-j-preserved c).After-write_at-x)
+      (c.store.ensures.left ∙ ap (store (held c.loop-j.state) c.write_at-x.result.key) c.left.ensures);
+}
 
 pub returns : goal.returns
-returns c = writing_ends c.loop-j.invariant (omega (arith, c.loop-j-test.false, c.writes-count.ensures))
+returns c = record {
+  same_lists = c.loop-j.invariant.same_lists;
+  left = writing_ends c.loop-j.invariant.written (omega (arith, c.loop-j-test.false, c.writes-j-end.ensures));
+}

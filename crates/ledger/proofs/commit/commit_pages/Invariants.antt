@@ -1,12 +1,18 @@
-use Prim.Native.Nat.{◌-◌, ◌≤◌}
+use Prim.Native.Nat.{◌≤◌}
+use Rattle.std.specs.Slice.Iter.{chunks_exact_rest, chunks_exact_size}
 use Rattle.ledger.specs.Gate.{tx_at}
-use Rattle.ledger.specs.State.{state_of}
+use Rattle.ledger.specs.State.{held, SameLists}
 use Rattle.ledger.proofs.Commits.{Committing}
+use Rattle.ledger.proofs.Walked.{Walking}
 use Rattle.ledger.proofs.commit.commit_pages.Given as goal
 
--- `commit_pages`: the pages in turn.
+-- the pages in turn
 abbrev pub invariant-loop-i : goal.invariant-loop-i
-invariant-loop-i l = (l.i ≤ l.m) × (l.count ≤ l.i) × Committing (tx_at l.batch) (state_of l.initial.blocks l.initial.places l.initial.values) l.n l.initial.verdicts l.i l.count (state_of l.blocks l.places l.values) l.verdicts
-
-abbrev pub decreases-loop-i : goal.decreases-loop-i
-decreases-loop-i l = l.m - l.i
+invariant-loop-i l =
+    let i = l.i-iterator.count in
+    record {
+      walking : Walking l.batch (chunks_exact_size l.i-iterator.iter) (chunks_exact_rest l.i-iterator.iter) i;
+      same_lists : SameLists l.initial.state l.state;
+      few : l.count ≤ i;
+      committing : Committing (tx_at l.batch) (held l.initial.state) l.n l.initial.verdicts i l.count (held l.state) l.verdicts;
+    }

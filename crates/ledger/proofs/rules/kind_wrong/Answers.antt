@@ -1,3 +1,4 @@
+use native.Mathlib.Omega.{arith}
 use mathlib.Core.Path.{◌≡◌, refl}
 use mathlib.Core.Bool.{Bool, true, false, not, ◌&&◌}
 use lib.Dec.{eqb}
@@ -19,8 +20,8 @@ returns-then-x-eq-PUT c = rw (eq-eqb _ 0 c.if-x-eq-PUT.true)
 
 pub returns-then-x-ne0 : goal.returns-then-x-ne0
 returns-then-x-ne0 c =
-    rw (ne_eqb _ 0 c.if-x-eq-PUT.false, not-zero _ (record { sfits = c.struct_told-1.given.1.1.0.1 }) c.if-x-ne0.true) (with_value (eqb c.args.x.kind 1))
+    rw (ne_eqb _ 0 c.if-x-eq-PUT.false, not-zero c.args.x.value (record { sfits = omega arith }) c.if-x-ne0.true) (with_value (eqb c.args.x.kind 1))
 
 pub returns : goal.returns
 returns c =
-    rw (ne_eqb _ 0 c.if-x-eq-PUT.false, is_zero_lem _ (record { sfits = c.struct_told-1.given.1.1.0.1 }) c.if-x-ne0.false) (without (eqb c.args.x.kind 1))
+    rw (ne_eqb _ 0 c.if-x-eq-PUT.false, is_zero_lem c.args.x.value (record { sfits = omega arith }) c.if-x-ne0.false) (without (eqb c.args.x.kind 1))

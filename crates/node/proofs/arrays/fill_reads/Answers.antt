@@ -12,29 +12,23 @@ use Rattle.node.proofs.arrays.fill_reads.Goals.{After-loop-i, In-loop-i}
 use Rattle.node.proofs.arrays.fill_reads.Invariants.{key, place, block}
 
 -- a turn's index is one of a read, and of the arrays
-within : (c : In-loop-i) → c.loop-i.i < length (page_tx c.args.page.now).reads
-within c = omega (arith, c.loop-i-test.true, c.reads-count.ensures)
+within : (c : In-loop-i) → c.loop-i.i < length (page_tx c.args.page.bytes.now).reads
+within c = omega (arith, c.loop-i-test.true, c.reads-i-end.ensures)
 
 room : (c : In-loop-i) → c.loop-i.i < 32
-room c = omega (arith, within c, count-reads c.args.page.now, c.requires.counted.few-reads)
+room c = omega (arith, within c, count-reads c.args.page.bytes.now, c.args.page.counted.few-reads)
 
 -- at the end all reads are passed
-done : (c : After-loop-i) → c.loop-i.i ≡ length (page_tx c.args.page.now).reads
-done c = omega (arith, c.loop-i-test.false, c.reads-count.ensures, c.loop-i.invariant.0)
-
-pub reads-count-requires : goal.reads-count-requires
-reads-count-requires c = c.requires.counted
+done : (c : After-loop-i) → c.loop-i.i ≡ length (page_tx c.args.page.bytes.now).reads
+done c = omega (arith, c.loop-i-test.false, c.reads-i-end.ensures, c.loop-i.invariant.0)
 
 pub loop-i-init : goal.loop-i-init
 loop-i-init c =
-    let z = c.requires.keys_value in
+    let z = c.requires in
     (omega arith, begins key no_read _ _ z.0, begins place no_read _ _ z.1, begins block no_read _ _ z.2)
 
 pub read-x-requires : goal.read-x-requires
-read-x-requires c = record {
-  counted = c.requires.counted;
-  i_in_bounds = within (goal.at.read-x-requires c).In-loop-i;
-}
+read-x-requires c = within (goal.at.read-x-requires c).In-loop-i
 
 pub offset_bounds-keys-i : goal.offset_bounds-keys-i
 offset_bounds-keys-i c = omega (arith, room (goal.at.offset_bounds-keys-i c).In-loop-i)
@@ -53,9 +47,6 @@ offset_bounds-blocks-i c = omega (arith, room (goal.at.offset_bounds-blocks-i c)
 
 pub bounds-blocks-i : goal.bounds-blocks-i
 bounds-blocks-i c = omega (arith, room (goal.at.bounds-blocks-i c).In-loop-i, c.loop-i.invariant.3.long)
-
-pub overflow_add-i : goal.overflow_add-i
-overflow_add-i c = omega (arith, room (goal.at.overflow_add-i c).In-loop-i)
 
 pub loop-i-preserved : goal.loop-i-preserved
 loop-i-preserved c =

@@ -17,8 +17,5 @@ abbrev pub block : Read → ℕ
 block x = x.version.block
 
 abbrev pub invariant-loop-i : goal.invariant-loop-i
-invariant-loop-i l = let xs = (page_tx l.page).reads in
+invariant-loop-i l = let xs = (page_tx l.page.bytes.now).reads in
     (l.i ≤ length xs) × Filling key no_read xs l.i l.keys × Filling place no_read xs l.i l.places × Filling block no_read xs l.i l.blocks
-
-abbrev pub decreases-loop-i : goal.decreases-loop-i
-decreases-loop-i l = l.count - l.i

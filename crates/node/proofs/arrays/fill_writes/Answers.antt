@@ -14,41 +14,35 @@ use Rattle.node.proofs.arrays.fill_writes.Goals.{After-loop-i, After-write_at-x,
 use Rattle.node.proofs.arrays.fill_writes.Invariants.{key, kind, value}
 
 -- a turn's index is one of a write, and of the arrays, and the write lies within the page
-within : (c : In-loop-i) → c.loop-i.i < length (page_tx c.args.page.now).writes
-within c = omega (arith, c.loop-i-test.true, c.writes-count.ensures)
+within : (c : In-loop-i) → c.loop-i.i < length (page_tx c.args.page.bytes.now).writes
+within c = omega (arith, c.loop-i-test.true, c.writes-i-end.ensures)
 
 room : (c : In-loop-i) → c.loop-i.i < 32
-room c = omega (arith, within c, count-writes c.args.page.now, c.requires.counted.few-writes)
+room c = omega (arith, within c, count-writes c.args.page.bytes.now, c.args.page.counted.few-writes)
 
 inside : (c : In-loop-i) → c.writes_at-from.result + 12 * c.loop-i.i + 12 ≤ 512
 inside c =
-    let p = c.args.page.now in
-    omega (arith, c.writes_at-from.ensures, c.reads.ensures, count-reads p, within c, count-writes p, c.requires.counted.room)
+    let p = c.args.page.bytes.now in
+    omega (arith, c.writes_at-from.ensures, c.reads.ensures, count-reads p, within c, count-writes p, c.args.page.counted.room)
 
 -- the write of a turn: the writes start behind the reads
-wrote : (c : After-write_at-x) → c.write_at-x.result ≡ write_of (page_tx c.args.page.now).writes c.loop-i.i
+wrote : (c : After-write_at-x) → c.write_at-x.result ≡ write_of (page_tx c.args.page.bytes.now).writes c.loop-i.i
 wrote c =
-    let p = c.args.page.now in
+    let p = c.args.page.bytes.now in
     let behind : c.writes_at-from.result ≡ 8 + 8 * read_count p = omega (arith, c.writes_at-from.ensures, c.reads.ensures, count-reads p) in
-    c.write_at-x.ensures ∙ write_from p _ c.loop-i.i behind (omega (arith, c.loop-i-test.true, c.writes-count.ensures, count-writes p))
+    c.write_at-x.ensures ∙ write_from p _ c.loop-i.i behind (omega (arith, c.loop-i-test.true, c.writes-i-end.ensures, count-writes p))
 
 -- at the end all writes are passed
-done : (c : After-loop-i) → c.loop-i.i ≡ length (page_tx c.args.page.now).writes
-done c = omega (arith, c.loop-i-test.false, c.writes-count.ensures, c.loop-i.invariant.0)
-
-pub writes-count-requires : goal.writes-count-requires
-writes-count-requires c = c.requires.counted
-
-pub reads-requires : goal.reads-requires
-reads-requires c = c.requires.counted
+done : (c : After-loop-i) → c.loop-i.i ≡ length (page_tx c.args.page.bytes.now).writes
+done c = omega (arith, c.loop-i-test.false, c.writes-i-end.ensures, c.loop-i.invariant.0)
 
 pub writes_at-from-requires : goal.writes_at-from-requires
 writes_at-from-requires c =
-    omega (arith, c.reads.ensures, count-reads c.args.page.now, c.requires.counted.few-reads)
+    omega (arith, c.reads.ensures, count-reads c.args.page.bytes.now, c.args.page.counted.few-reads)
 
 pub loop-i-init : goal.loop-i-init
 loop-i-init c =
-    let z = c.requires.keys_value in
+    let z = c.requires in
     (omega arith, begins key no_write _ _ z.0, begins kind no_write _ _ z.1, begins value no_write _ _ z.2)
 
 pub overflow_mul-i : goal.overflow_mul-i
@@ -58,7 +52,7 @@ pub overflow_add-from : goal.overflow_add-from
 overflow_add-from c = omega (arith, inside (goal.at.overflow_add-from c).In-loop-i)
 
 pub write_at-x-requires : goal.write_at-x-requires
-write_at-x-requires c = omega (arith, inside (goal.at.write_at-x-requires c).In-loop-i, c.requires.counted.whole)
+write_at-x-requires c = omega (arith, inside (goal.at.write_at-x-requires c).In-loop-i, c.args.page.counted.whole)
 
 pub offset_bounds-keys-i : goal.offset_bounds-keys-i
 offset_bounds-keys-i c = omega (arith, room (goal.at.offset_bounds-keys-i c).In-loop-i)
@@ -77,9 +71,6 @@ offset_bounds-values-i c = omega (arith, room (goal.at.offset_bounds-values-i c)
 
 pub bounds-values-i : goal.bounds-values-i
 bounds-values-i c = omega (arith, room (goal.at.bounds-values-i c).In-loop-i, c.loop-i.invariant.3.long)
-
-pub overflow_add-i : goal.overflow_add-i
-overflow_add-i c = omega (arith, room (goal.at.overflow_add-i c).In-loop-i)
 
 pub loop-i-preserved : goal.loop-i-preserved
 loop-i-preserved c =

@@ -18,8 +18,5 @@ abbrev pub value : Write → ℤ
 value x = x.value
 
 abbrev pub invariant-loop-i : goal.invariant-loop-i
-invariant-loop-i l = let xs = (page_tx l.page).writes in
+invariant-loop-i l = let xs = (page_tx l.page.bytes.now).writes in
     (l.i ≤ length xs) × Filling key no_write xs l.i l.keys × Filling kind no_write xs l.i l.kinds × Filling value no_write xs l.i l.values
-
-abbrev pub decreases-loop-i : goal.decreases-loop-i
-decreases-loop-i l = l.count - l.i

@@ -14,6 +14,3 @@ use Rattle.node.proofs.arrays.lay_writes.Given as goal
 abbrev pub invariant-loop-i : goal.invariant-loop-i
 invariant-loop-i l = (l.i ≤ l.count) × (length l.p ≡ length l.initial.p) × (l.p ≡ sets l.initial.p l.at (flat l.i (λ k. write_bytes (write_in l.keys l.kinds l.values k))))
     × ((k : ℕ) → k < l.i → SFits w64 (get_or l.values k (pos 0)))
-
-abbrev pub decreases-loop-i : goal.decreases-loop-i
-decreases-loop-i l = l.count - l.i

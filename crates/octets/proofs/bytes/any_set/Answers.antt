@@ -1,12 +1,12 @@
-use borrow.Author.Rules.{rules}
-use Rattle.octets.proofs.Joined.{joined_begins, joined_turns, joined-ends}
+use Prim.Native.Nat.{◌-◌}
+use native.Mathlib.Omega.{arith}
+use Rattle.octets.proofs.Joined.{joined_turns, joined-ends}
+use Rattle.octets.proofs.Numbers.{byte_at}
 use Rattle.octets.proofs.bytes.any_set.Goals as goal
 
-pub loop-i-init : goal.loop-i-init
-loop-i-init c = joined_begins _ _ _ (search rules)
-
-pub loop-i-preserved : goal.loop-i-preserved
-loop-i-preserved c = joined_turns _ _ _ _ _ c.loop-i.invariant c.loop-i-test.true
+pub loop-b-preserved : goal.loop-b-preserved
+loop-b-preserved c =
+    joined_turns _ _ _ _ _ c.loop-b.invariant (omega arith) _ _ (byte_at c.args.p.now c.args.from (c.args.to - c.args.from) c.loop-b.b-index (omega arith)) (omega arith)
 
 pub returns : goal.returns
-returns c = joined-ends _ _ _ _ _ c.loop-i.invariant c.loop-i-test.false
+returns c = joined-ends _ _ _ _ _ c.loop-b.invariant (omega arith)

@@ -1,6 +1,7 @@
+use mathlib.Core.Path.{◌∙◌}
 use native.Mathlib.Omega.{arith}
-use Rattle.octets.proofs.Numbers.{field-add}
+use Rattle.octets.proofs.Numbers.{number-field}
 use Rattle.octets.proofs.bytes.le8.Goals as goal
 
 pub returns : goal.returns
-returns c = let a = c.args in omega (arith, field-add a.p.now a.at 4 4)
+returns c = rw c.bytes_at.ensures at c.from_le_bytes.ensures ∙ number-field _ _ 8 7 (omega arith)

@@ -13,6 +13,3 @@ whole c = omega (arith, c.weigh_rows.ensures, c.tail.ensures)
 pub overflow_add-result : goal.overflow_add-result
 overflow_add-result c =
     omega (arith, whole (goal.at.overflow_add-result c).After-tail, check_most c.args.p.now (λ i. omega (arith, c.type_inv.p i)))
-
-pub returns : goal.returns
-returns c = whole (goal.at.returns c).After-tail

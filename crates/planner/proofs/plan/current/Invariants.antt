@@ -1,13 +1,18 @@
-use Prim.Native.Nat.{◌-◌, ◌≤◌}
-use Rattle.ledger.specs.State.{versions_in}
-use Rattle.ledger.specs.Gate.{tx_at}
+use Prim.Native.Nat.{◌≤◌}
+use Rattle.std.specs.Slice.Iter.{chunks_exact_rest, chunks_exact_size}
+use Rattle.ledger.specs.State.{lent, versions}
+use Rattle.ledger.specs.Gate.{pages, tx_at}
+use Rattle.ledger.proofs.Walked.{Walking}
 use Rattle.planning.specs.Plan.{current}
 use Rattle.planner.proofs.Surveying.{Passed}
 use Rattle.planner.proofs.plan.current.Given as goal
 
--- `planner::plan::current` meets its contract. The invariant is `Passed`, whatever the values; the measure is how many pages are left. Assumes nothing.
+-- the current ones of the pages that were walked
 abbrev pub invariant-loop-i : goal.invariant-loop-i
-invariant-loop-i l = (l.i ≤ l.m) × Passed (current (versions_in l.blocks l.places) (tx_at l.batch)) l.set l.i
-
-abbrev pub decreases-loop-i : goal.decreases-loop-i
-decreases-loop-i l = l.m - l.i
+invariant-loop-i l =
+    let i = l.i-iterator.count in
+    record {
+      walking : Walking l.batch (chunks_exact_size l.i-iterator.iter) (chunks_exact_rest l.i-iterator.iter) i;
+      few : i ≤ pages l.batch;
+      passed : Passed (current (versions (lent l.state)) (tx_at l.batch)) l.set i;
+    }

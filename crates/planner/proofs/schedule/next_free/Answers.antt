@@ -1,66 +1,55 @@
-use mathlib.Core.Path.{◌≡◌, refl, sym, ◌∙◌}
-use mathlib.Core.Bool.{not, ◌&&◌}
-use Prim.Native.Nat.{ℕ}
-use lib.Dec.{eqb}
-use borrow.Author.Rules.{rules}
+use mathlib.Core.Path.{◌≡◌, refl, sym, ap, ◌∙◌}
+use mathlib.Core.Bool.{true}
+use Prim.Native.Nat.{ℕ, ◌<◌}
 use native.Mathlib.Omega.{arith}
+use Rattle.lists.proofs.Tests.{clash}
 use Rattle.sets.specs.Set.{member}
-use Rattle.sets.proofs.Laws.{without-lt}
-use Rattle.planner.proofs.Candidates.{begins, blocked, passes, found, never}
+use Rattle.sets.proofs.Laws.{nonzero, without-lt}
+use Rattle.std.proofs.lemmas.List.{get_or_default}
+use Rattle.planner.proofs.Candidates.{held, blocked, found, never, asks, passes, unblocked}
 use Rattle.planner.proofs.schedule.next_free.Goals as goal
-use Rattle.planner.proofs.schedule.next_free.Goals.{After-drop_lowest-open}
+use Rattle.planner.proofs.schedule.next_free.Goals.{In-Some}
 
-pub tickets-init : goal.tickets-init
-tickets-init c = begins _ _
-
-pub lowest-p-requires : goal.lowest-p-requires
-lowest-p-requires c = omega arith
+-- the candidate is left
+candidate : (c : In-Some) → (c.in-Some.p < 64) × (member c.args.left c.in-Some.p ≡ true)
+candidate c = held _ _ _ _ _ _ c.tickets.invariant c.in-Some.ensures.steps
 
 pub offset_bounds-blockers-p : goal.offset_bounds-blockers-p
-offset_bounds-blockers-p c = omega arith
+offset_bounds-blockers-p c = let small = (candidate (goal.at.offset_bounds-blockers-p c).In-Some).0 in record { fits = omega arith }
+
+pub listed : goal.listed
+listed c = omega (arith, (candidate (goal.at.listed c).In-Some).0)
 
 pub bounds-blockers-p : goal.bounds-blockers-p
-bounds-blockers-p c = c.lowest-p.ensures.small
+bounds-blockers-p c = (candidate (goal.at.bounds-blockers-p c).In-Some).0
 
-pub loop-others-init : goal.loop-others-init
-loop-others-init c = (refl, record { block = λ q e. e; all = λ q m e. e })
-
-pub lowest-q-requires : goal.lowest-q-requires
-lowest-q-requires c = omega arith
-
-pub drop_lowest-open-requires : goal.drop_lowest-open-requires
-drop_lowest-open-requires c = omega arith
-
--- the candidates without p: the inner loop has not changed them
-dropped : (c : After-drop_lowest-open) (j : ℕ) →
-    member c.drop_lowest-open.result j ≡ (member c.tickets.«open» j && not (eqb c.lowest-p.result j))
-dropped c j = rw c.loop-others.invariant.0 at c.drop_lowest-open.ensures _ c.lowest-p.ensures j
-
-pub tickets-smaller : goal.tickets-smaller
-tickets-smaller c = without-lt _ _ _ c.lowest-p.ensures.isin (dropped (goal.at.tickets-smaller c).After-drop_lowest-open)
+pub loop-q-init : goal.loop-q-init
+loop-q-init c =
+    asks _ _ _ _
+    (λ q. ap (λ (m : ℕ). member m q) (sym (get_or_default c.args.blockers.now c.in-Some.p _ 0 (omega (arith, (candidate (goal.at.loop-q-init c).In-Some).0)))))
 
 pub tickets-preserved : goal.tickets-preserved
 tickets-preserved c =
-    blocked _ _ _ _ _ _ c.tickets.invariant (sym c.has.ensures ∙ c.if-has.true) (c.loop-others.invariant.1.block _ c.lowest-q.ensures.isin) (dropped (goal.at.tickets-preserved c).After-drop_lowest-open)
+    blocked _ _ _ _ _ _ c.tickets.invariant c.in-Some.ensures.steps _ (sym c.has.ensures ∙ c.if-has.true) (c.loop-q.invariant.block _ c.in-Some-first.ensures.value.isin)
 
-pub drop_lowest-others-requires : goal.drop_lowest-others-requires
-drop_lowest-others-requires c = omega arith
+pub loop-q-smaller : goal.loop-q-smaller
+loop-q-smaller c = let low = c.in-Some-first.ensures.value in without-lt _ _ _ low.isin (c.drop_lowest-others.ensures _ low)
 
-pub loop-others-smaller : goal.loop-others-smaller
-loop-others-smaller c = without-lt _ _ _ c.lowest-q.ensures.isin (c.drop_lowest-others.ensures _ c.lowest-q.ensures)
+pub loop-q-preserved : goal.loop-q-preserved
+loop-q-preserved c =
+    passes _ _ _ _ _ _ c.loop-q.invariant (sym c.has.ensures ∙ c.if-has.false) (c.drop_lowest-others.ensures _ c.in-Some-first.ensures.value)
 
-pub loop-others-preserved : goal.loop-others-preserved
-loop-others-preserved c = (
-  c.loop-others.invariant.0,
-  passes _ _ _ _ _ _ c.loop-others.invariant.1 (sym c.has.ensures ∙ c.if-has.false) (c.drop_lowest-others.ensures _ c.lowest-q.ensures),
+pub returns-in-tickets-clause-some : goal.returns-in-tickets-clause-some
+returns-in-tickets-clause-some c = (λ _. nonzero _ _ (candidate (goal.at.returns-in-tickets-clause-some c).In-Some).1, λ _. refl)
+
+pub returns-in-tickets-clause-value : goal.returns-in-tickets-clause-value
+returns-in-tickets-clause-value c =
+    let empty : 0 < c.loop-q.others → ⊥ = λ h. clash (sym (c.in_default.ensures.some.1 h)) in
+    let e : c.loop-q.others ≡ 0 = omega arith in
+    found _ _ _ _ _ _ c.tickets.invariant c.in-Some.ensures.steps (omega arith) (unblocked _ _ _ (rw e at c.loop-q.invariant))
+
+pub returns-clause-some : goal.returns-clause-some
+returns-clause-some c = (
+  λ e. absurd (clash (sym e)),
+  λ h. absurd (never _ _ _ (omega arith) c.requires (rw c.in-None.ensures.steps.0 at c.tickets.invariant) h),
 )
-
-pub returns-in-tickets : goal.returns-in-tickets
-returns-in-tickets c =
-    let e : c.loop-others.others ≡ 0 = c.loop-others-test.false in
-    found _ _ _ _ c.tickets.invariant c.lowest-p.ensures (rw e at c.loop-others.invariant.1)
-
-pub returns : goal.returns
-returns c =
-    let e : c.tickets.«open» ≡ 0 = c.tickets-test.false in
-    absurd (never _ _ c.requires.left_nonzero (search rules) c.requires.left_value (rw e at c.tickets.invariant))

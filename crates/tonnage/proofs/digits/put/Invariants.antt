@@ -1,4 +1,3 @@
-use Prim.Native.Nat.{◌≤◌}
 use mathlib.Core.Path.{◌≡◌}
 use lib.ListN.{length}
 use lib.Seq.{sets}
@@ -7,7 +6,4 @@ use Rattle.tonnage.proofs.digits.put.Given as goal
 
 -- `put`: the last digit first. Invariant: what is left, stored before the digits that stand, gives the whole run.
 abbrev pub invariant-loop-i : goal.invariant-loop-i
-invariant-loop-i l = (l.i ≤ l.count) × (length l.text ≡ length l.initial.text) × (sets l.initial.text l.at (digits l.count l.n) ≡ sets l.text l.at (digits l.i l.left))
-
-abbrev pub decreases-loop-i : goal.decreases-loop-i
-decreases-loop-i l = l.i
+invariant-loop-i l = (length l.text ≡ length l.initial.text) × (sets l.initial.text l.at (digits l.count l.n) ≡ sets l.text l.at (digits l.i l.left))

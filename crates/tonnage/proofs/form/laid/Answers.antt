@@ -1,35 +1,53 @@
+use mathlib.Core.Path.{◌≡◌, refl, sym, ap, ◌∙◌}
+use mathlib.Core.Bool.{not, ◌&&◌, ◌||◌}
+use Prim.Native.Nat.{◌+◌, ◌-◌}
 use native.Mathlib.Omega.{arith}
-use borrow.Author.Rules.{rules}
-use Rattle.tonnage.proofs.Laying.{start-one, short, stray, padded, no_comma, decided}
+use lib.Dec.{eqb}
+use lib.ListN.{length, get_or}
+use borrow.Author.Tests.{eq-eqb, ne_eqb}
+use Rattle.lists.specs.Search.{some_in}
+use Rattle.tonnage.specs.Text.{other}
+use Rattle.tonnage.proofs.Laying.{start-one, short, tests}
+use Rattle.tonnage.proofs.Decimal.{only_digits}
 use Rattle.tonnage.proofs.form.laid.Goals as goal
-use Rattle.tonnage.proofs.form.laid.Goals.{then-text-start-eq48+else-start-point, else-text-start-eq48}
+use Rattle.tonnage.proofs.form.laid.Goals.{Joined-all, Joined-start-point, then-all+then-text-start-ne48, then-all+else-text-start-ne48, else-all, then-start-point, else-start-point}
 
-pub overflow_add-start : goal.overflow_add-start
-overflow_add-start c = omega (arith, start-one c.args.text.now _ c.start-start.ensures)
+-- what the tests are joined to, up to that of needless zeros, and up to the comma
+lean : (c : Joined-all) → c.if-all.value ≡ (c.all.result && (not (eqb (get_or c.args.text.now c.start-start.result 0) 48) || eqb (c.start-start.result + 1) (length c.args.text.now - 4)))
+lean c = elim c.if-all.branch [
+  | then-all+then-text-start-ne48 w ↦ w.value-is ∙ rw (w.if-all.true, ne_eqb _ _ w.if-text-start-ne48.true)
+  | then-all+else-text-start-ne48 w ↦ w.value-is ∙ rw (w.if-all.true, eq-eqb _ _ w.if-text-start-ne48.false)
+  | else-all w ↦ w.value-is ∙ rw w.if-all.false
+]
+
+comma : (c : Joined-start-point) → c.if-start-point.value ≡ (c.if-all.value && eqb (get_or c.args.text.now (length c.args.text.now - 4) 0) 44)
+comma c = elim c.if-start-point.branch [
+  | then-start-point w ↦ w.value-is ∙ rw w.if-start-point.true
+  | else-start-point w ↦ w.value-is ∙ rw w.if-start-point.false
+]
 
 pub returns-then-text-start : goal.returns-then-text-start
-returns-then-text-start c =
-    let s = c.start-start in
-    short _ _ s.ensures c.if-text-start.true
+returns-then-text-start c = short _ _ c.start-start.ensures c.if-text-start.true
 
-pub returns-then-first_other-point : goal.returns-then-first_other-point
-returns-then-first_other-point c =
+pub returns-then-text-point-eq44 : goal.returns-then-text-point-eq44
+returns-then-text-point-eq44 c =
+    let g = goal.at.returns-then-text-point-eq44 c in
+    let t = c.args.text.now in
     let s = c.start-start in
-    stray _ _ s.ensures _ c.first_other.ensures c.if-first_other-point.true
+    let low = start-one t _ s.ensures in
+    ap (λ b. b && c.all-then-text-point-eq44.result) (sym c.if-text-point-eq44.true ∙ comma g.Joined-start-point ∙ ap (λ b. b && eqb (get_or t (length t - 4) 0) 44) (lean g.Joined-all))
+    ∙ tests t _ s.ensures (omega arith) _ _
+    (c.all.ensures ∙ only_digits t s.result (length t - 4) (omega arith) (omega arith))
+    (c.all-then-text-point-eq44.ensures ∙ only_digits t (length t - 4 + 1) (length t) (omega arith) (omega arith))
 
-pub returns-then-start-point : goal.returns-then-start-point
-returns-then-start-point c =
+pub returns-else-text-point-eq44 : goal.returns-else-text-point-eq44
+returns-else-text-point-eq44 c =
+    let g = goal.at.returns-else-text-point-eq44 c in
+    let t = c.args.text.now in
     let s = c.start-start in
-    padded _ _ s.ensures c.if-text-start-eq48.true c.if-start-point.true
-
-pub returns-then-text-point-ne44 : goal.returns-then-text-point-ne44
-returns-then-text-point-ne44 c =
-    let s = c.start-start in
-    no_comma _ _ s.ensures c.if-text-point-ne44.true
-
-pub returns : goal.returns
-returns c =
-    let s = c.start-start in
-    decided _ _ s.ensures (search rules) (rw c.first_other.ensures at c.if-first_other-point.false)
-    (elim c.if-text-start-eq48.branch [ then-text-start-eq48+else-start-point w ↦ (λ _. w.if-start-point.false) | else-text-start-eq48 w ↦ (λ h. absurd (w.if-text-start-eq48.false h)) ])
-    c.if-text-point-ne44.false _ c.first_other-2.ensures
+    let part = not (some_in (other t) (length t - 4 + 1) (length t)) in
+    c.if-text-point-eq44.false
+    ∙ ap (λ b. b && part) (sym c.if-text-point-eq44.false ∙ comma g.Joined-start-point ∙ ap (λ b. b && eqb (get_or t (length t - 4) 0) 44) (lean g.Joined-all))
+    ∙ tests t _ s.ensures (omega arith) _ part
+    (c.all.ensures ∙ only_digits t s.result (length t - 4) (omega arith) (omega arith))
+    refl

@@ -1,3 +1,4 @@
+use Rattle.refusals.proofs.Answers.{given}
 use mathlib.Core.Path.{◌≡◌, sym, ap, ◌∙◌}
 use Prim.Native.Nat.{◌+◌}
 use native.Mathlib.Omega.{arith}
@@ -58,7 +59,7 @@ overflow_add-length c = omega (arith, start_is (goal.at.overflow_add-length c).J
 pub returns-then-text-length : goal.returns-then-text-length
 returns-then-text-length c =
     let g = goal.at.returns-then-text-length c in
-    ap (λ o. record { answer = o; text = c.args.text.now }) c.refused.ensures ∙ too_small _ _ _ (length-is g.After-width-width (start_is g.Joined-parts)) c.if-text-length.true
+    ap (λ o. record { answer = o; text = c.args.text.now }) (given c.at.ensures) ∙ too_small _ _ _ (length-is g.After-width-width (start_is g.Joined-parts)) c.if-text-length.true
 
 pub put-requires : goal.put-requires
 put-requires c = omega (arith, sign-length-is (goal.at.put-requires c).Joined-parts-2)

@@ -1,3 +1,4 @@
+use Rattle.refusals.proofs.Answers.{told}
 use mathlib.Core.Path.{◌≡◌, sym, ◌∙◌}
 use native.Mathlib.Omega.{arith}
 use lib.ListN.{length, get_or}
@@ -21,19 +22,19 @@ mark : (c : Else-page-ne-MARK) → get_or c.args.page.now 0 0 ≡ 0x54
 mark c = c.if-page-ne-MARK.false
 
 pub returns-then-page-ne-PAGE : goal.returns-then-page-ne-PAGE
-returns-then-page-ne-PAGE c = c.found.ensures ∙ is_one c.args.page.now c.if-page-ne-PAGE.true
+returns-then-page-ne-PAGE c = (told c.at.ensures) ∙ is_one c.args.page.now c.if-page-ne-PAGE.true
 
 pub returns-then-weigh-le4 : goal.returns-then-weigh-le4
 returns-then-weigh-le4 c =
-    c.found-then-weigh-le4.ensures ∙ is_two _ (long (goal.at.returns-then-weigh-le4 c).Else-page-ne-PAGE) (λ e. c.if-weigh-le4.true (weight (goal.at.returns-then-weigh-le4 c).After-weigh ∙ e ∙ sym c.le4.ensures))
+    (told c.at-then-weigh-le4.ensures) ∙ is_two _ (long (goal.at.returns-then-weigh-le4 c).Else-page-ne-PAGE) (λ e. c.if-weigh-le4.true (weight (goal.at.returns-then-weigh-le4 c).After-weigh ∙ e ∙ sym c.le4.ensures))
 
 pub returns-then-page-ne-MARK : goal.returns-then-page-ne-MARK
 returns-then-page-ne-MARK c =
-    c.found-then-page-ne-MARK.ensures ∙ is_mark _ (long (goal.at.returns-then-page-ne-MARK c).Else-page-ne-PAGE) (sum (goal.at.returns-then-page-ne-MARK c).Else-weigh-le4) c.if-page-ne-MARK.true
+    (told c.at-then-page-ne-MARK.ensures) ∙ is_mark _ (long (goal.at.returns-then-page-ne-MARK c).Else-page-ne-PAGE) (sum (goal.at.returns-then-page-ne-MARK c).Else-weigh-le4) c.if-page-ne-MARK.true
 
 pub returns-then-page-ne0 : goal.returns-then-page-ne0
 returns-then-page-ne0 c =
-    c.found-then-page-ne0.ensures ∙ is_three _ (long (goal.at.returns-then-page-ne0 c).Else-page-ne-PAGE) (sum (goal.at.returns-then-page-ne0 c).Else-weigh-le4) (mark (goal.at.returns-then-page-ne0 c).Else-page-ne-MARK) c.if-page-ne0.true
+    (told c.at-then-page-ne0.ensures) ∙ is_three _ (long (goal.at.returns-then-page-ne0 c).Else-page-ne-PAGE) (sum (goal.at.returns-then-page-ne0 c).Else-weigh-le4) (mark (goal.at.returns-then-page-ne0 c).Else-page-ne-MARK) c.if-page-ne0.true
 
 pub overflow_cast-page : goal.overflow_cast-page
 overflow_cast-page c = omega (arith, c.type_inv.page 1)

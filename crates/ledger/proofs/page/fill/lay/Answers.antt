@@ -11,6 +11,6 @@ use Rattle.ledger.proofs.page.fill.lay.Goals as goal
 pub returns : goal.returns
 returns c =
     let t = c.args.t in
-    rw (c.put_writes.ensures, c.writes_at.ensures, c.put_reads.ensures, c.put_head.ensures.p_after)
+    rw (c.put_all-2.ensures, c.writes_at.ensures, c.put_all.ensures, c.put_head.ensures.p_after)
     (stored t.r t.w t.ticket _ _ (λ i. length-read (read_of t.reads i)) (λ i. length-write (write_of t.writes i)) c.args.p.now
     ∙ ap (sets c.args.p.now 0) (laid-value t (omega (arith, owned_reads t _ c.well_formed.1.0, c.requires)) (omega (arith, owned_writes t _ c.well_formed.1.0, c.requires))))

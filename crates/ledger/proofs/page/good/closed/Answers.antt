@@ -11,25 +11,25 @@ use Rattle.ledger.proofs.page.good.closed.Goals.{After-any_set}
 
 -- `closed`: the spare bytes decide first, then the check.
 -- where the spare bytes begin, and what stands there
-spare : (c : After-any_set) → c.spare_at-spare.result ≡ spare_from c.args.page.now
+spare : (c : After-any_set) → c.spare_at-spare.result ≡ spare_from c.args.page.bytes.now
 spare c =
-    let p = c.args.page.now in
+    let p = c.args.page.bytes.now in
     omega (arith, c.spare_at-spare.ensures, c.reads.ensures, c.writes.ensures, count-reads p, count-writes p)
 
-searched : (c : After-any_set) → let p = c.args.page.now in
+searched : (c : After-any_set) → let p = c.args.page.bytes.now in
     c.any_set.result ≡ some_in (set? p) (spare_from p) 508
 searched c =
-    let p = c.args.page.now in
+    let p = c.args.page.bytes.now in
     c.any_set.ensures ∙ ap (λ n. some_in (set? p) n 508) (spare c)
 
 pub spare_at-spare-requires : goal.spare_at-spare-requires
 spare_at-spare-requires c =
-    let p = c.args.page.now in
+    let p = c.args.page.bytes.now in
     (omega (arith, c.reads.ensures, count-reads p), omega (arith, c.writes.ensures, count-writes p))
 
 pub any_set-requires : goal.any_set-requires
 any_set-requires c =
-    let p = c.args.page.now in
+    let p = c.args.page.bytes.now in
     omega (arith, c.spare_at-spare.ensures, c.reads.ensures, c.writes.ensures, count-reads p, count-writes p)
 
 pub returns-then-any_set : goal.returns-then-any_set

@@ -1,6 +1,6 @@
-use mathlib.Core.Path.{ap}
-use native.Mathlib.Omega.{arith}
+use mathlib.Core.Path.{ap, ◌∙◌}
 use borrow.Author.Tests.{eq-eqb, ne_eqb}
+use Rattle.refusals.proofs.Answers.{clear-ok}
 use Rattle.refusals.specs.Fault.{is_clear}
 use Rattle.ledger.specs.Good.{framed}
 use Rattle.ledger.proofs.page.good.framed.Goals as goal
@@ -19,21 +19,9 @@ unfolding framed
 returns-then-page-ne0 c =
     rw (eq-eqb _ _ c.if-page-ne-PAGE.false, eq-eqb _ _ c.if-page-ne-MARK.false, ne_eqb _ _ c.if-page-ne0.true)
 
-pub overflow_cast-page : goal.overflow_cast-page
-overflow_cast-page c = omega (arith, c.type_inv.page 1)
-
-pub overflow_cast-page-2 : goal.overflow_cast-page-2
-overflow_cast-page-2 c = omega (arith, c.type_inv.page 2)
-
 -- what the counts are found to be decides
-pub returns-in-Found : goal.returns-in-Found
-unfolding framed
-returns-in-Found c =
-    rw (eq-eqb _ _ c.if-page-ne-PAGE.false, eq-eqb _ _ c.if-page-ne-MARK.false, eq-eqb _ _ c.if-page-ne0.false)
-    (ap is_clear c.in-Found.ensures)
-
 pub returns : goal.returns
 unfolding framed
 returns c =
     rw (eq-eqb _ _ c.if-page-ne-PAGE.false, eq-eqb _ _ c.if-page-ne-MARK.false, eq-eqb _ _ c.if-page-ne0.false)
-    (ap is_clear c.in_default.ensures)
+    (c.is_ok.ensures.value ∙ clear-ok c.count_fault.result ∙ ap is_clear c.count_fault.ensures)

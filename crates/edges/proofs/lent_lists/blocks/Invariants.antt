@@ -1,8 +1,0 @@
-use Rattle.std.proofs.Common.{◌-◌, ◌≤◌}
-use Rattle.edges.proofs.lent_lists.blocks.Given as goal
-
-abbrev pub invariant-loop-i : goal.invariant-loop-i
-invariant-loop-i l = l.i ≤ 1100
-
-abbrev pub decreases-loop-i : goal.decreases-loop-i
-decreases-loop-i l = 1100 - l.i

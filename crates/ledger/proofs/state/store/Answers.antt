@@ -1,7 +1,0 @@
-use Rattle.ledger.specs.State.{store}
-use borrow.Author.Rules.{rules}
-use Rattle.ledger.proofs.state.store.Goals as goal
-
-pub returns : goal.returns
-unfolding store
-returns c = search rules

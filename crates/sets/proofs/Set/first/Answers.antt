@@ -1,0 +1,15 @@
+use mathlib.Core.Path.{refl, sym, ◌∙◌}
+use Prim.Native.Nat.{◌<◌}
+use borrow.Author.Tests.{eqb-false}
+use native.Mathlib.Omega.{arith}
+use Rattle.sets.proofs.Set.first.Goals as goal
+use Rattle.sets.proofs.Set.first.Goals.{Else-is_empty}
+
+filled : (c : Else-is_empty) → 0 < c.args.self
+filled c = let other = eqb-false _ _ (sym c.is_empty.ensures ∙ c.if-is_empty.false) in omega arith
+
+pub lowest-requires : goal.lowest-requires
+lowest-requires c = filled (goal.at.lowest-requires c).Else-is_empty
+
+pub returns : goal.returns
+returns c = let p = filled (goal.at.returns c).Else-is_empty in record { some = (λ _. p, λ _. refl); value = c.lowest.ensures }

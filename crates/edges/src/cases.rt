@@ -124,7 +124,8 @@ impl<'a> Case<'a> {
         self.asked.cast_signed()
     }
 
-    // The blocks of the state that is lent, and what follows them in the case, up to a number of them.
+    // The blocks of the state that is lent, and what follows them in the case, up to a number of them. A line for each list, as
+    // each has its place and its type.
     pub fn blocks<const N: usize>(&self) -> [u32; N] {
         Reader::new(self.whole, self.ends.bytes).read()
     }

@@ -40,7 +40,7 @@ impl<'a> Reader<'a> {
     }
 }
 
-// What can stand in a case.
+// What can stand in a case. An impl for each width, since the library converts by a function of each type.
 pub trait FromCase {
     fn from_case(from: &mut Reader<'_>) -> Self;
 }

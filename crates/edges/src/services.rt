@@ -12,7 +12,7 @@ const MOST_BYTES: usize = 34816;
 // More keys than the 1024 that are taken.
 const MOST_KEYS: usize = 1100;
 
-// The transaction that is due with a refusal: none.
+// The transaction that a case has for a refusal: one of zeros.
 const NO_TRANSACTION: Transaction = Transaction {
     ticket: 0,
     r: 0,
@@ -90,7 +90,8 @@ struct Lists {
     out: [u8; MOST_BYTES],
 }
 
-// The lists in the lengths of a case; a page or a text is written in the verdicts' list.
+// The lists in the lengths of a case; a page or a text is written in the verdicts' list. No `StateMut` within: the toolchain
+// does not cover a struct of lent lists in another.
 #[derive(Drop)]
 struct Lent<'a> {
     blocks: &'a mut [u32],

@@ -47,7 +47,8 @@ fn page_fault(batch: &[u8]) -> Result<(), Refusal>
     Ok(())
 }
 
-// Fills the first tickets with those of the pages.
+// Fills the first tickets with those of the pages. Stored by index: a `zip` with `iter_mut` closes no proof, and a walk over the
+// tickets would take the pages by index.
 fn fill_tickets(batch: &[u8], tickets: &mut [u32])
     requires { pages batch.now ≤ length tickets.old }
     ensures { TicketsOf batch.now (pages batch.now) tickets.new }

@@ -18,7 +18,8 @@ pub const PASSED: u8 = Verdict::PASSED as u8;
 
 pub const FAILED: u8 = Verdict::Failed as u8;
 
-// Whether each read of a page names the version that its key has.
+// Whether each read of a page names the version that its key has. What the gate found of a page, and of a batch, is a clause
+// here and below (`Ready`, `Batch`): it speaks of the page and of the state's keys, which no type of ours holds together.
 pub fn passes(page: Page<'_>, state: State<'_>) -> bool
     requires ready { Ready (keys (lent state)) page.bytes.now }
     requires places_len { length state.places.now ≡ length state.blocks.now }
@@ -85,7 +86,7 @@ fn commit_page(page: Page<'_>, state: &mut StateMut<'_>, n: u32, i: u16) -> bool
     true
 }
 
-// Commits the pages in batch order, and gives the number that pass.
+// Commits the pages in batch order, and gives the number that pass. Verdicts are stored by index, as tickets are.
 fn commit_pages(batch: &[u8], state: &mut StateMut<'_>, n: u32, verdicts: &mut [u8]) -> usize
     requires batch { Batch (keys (held state.old)) batch.now (pages batch.now) }
     requires level { Level (held state.old) }

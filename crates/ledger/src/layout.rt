@@ -65,7 +65,7 @@ pub fn read_start(i: usize) -> usize
     HEAD + READ * i
 }
 
-// "then: w writes": where the writes start, behind `r` reads.
+// "then: w writes": where the writes start, behind `r` reads. The sum of `read_start`, for another thing that the document names.
 pub fn writes_at(r: usize) -> usize
     requires { r ≤ 32 }
     ensures { result ≡ 8 + 8 * r }

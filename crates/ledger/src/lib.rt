@@ -1,7 +1,7 @@
 // The ledger: pages, the state, the gate of a batch, version check and commit.
 #![tactic(auto)]
 
-// A version: a block number and a place.
+// A version: a block number and a place. Its kind is told by the place, as in the bytes of a page and in C's lists.
 #[derive(Clone, Copy, PartialEq, Eq)]
 pub struct Version {
     pub block: u32,
@@ -37,7 +37,8 @@ pub struct Entry {
     pub value: i64,
 }
 
-// What the writes of a page are marked with: the number of the batch, and the page's place in it.
+// What the writes of a page are marked with: the number of the batch, and the page's place in it. That a place is below 64 is a
+// clause, since the definition of a stamp takes any.
 #[derive(Clone, Copy, PartialEq, Eq)]
 pub struct Stamp {
     pub number: u32,

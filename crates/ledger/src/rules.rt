@@ -4,7 +4,7 @@ ghost use Rattle.ledger.specs.Tx.{wrong_key, wrong_version, wrong_kind};
 
 use crate::{Kind, Version, Write, layout};
 
-// The kinds of a write, as a page has them.
+// The kinds of a write, as a page has them: a page may have any number.
 pub const PUT: u16 = Kind::Put as u16;
 
 const DELETE: u16 = Kind::Delete as u16;

@@ -10,7 +10,7 @@ use refusals::{Reason, Refusal};
 
 // The ledger's state, lent to be read: block numbers, places and values; key k is index k. Three lists, as C lends them, and
 // of any lengths, since a service answers for each of them: that they have one length is a clause of what stands behind the
-// gate. Types that hold it, one to read and one to write, would be longer than these clauses.
+// gate. Types that hold it, one to read and one to write, would be made at seven calls, and be longer than these clauses.
 #[derive(Clone, Copy)]
 pub struct State<'a> {
     pub blocks: &'a [u32],
@@ -18,7 +18,7 @@ pub struct State<'a> {
     pub values: &'a [i64],
 }
 
-// The same three lists, lent to be written.
+// The same three lists, lent to be written: another type, as `IterMut` is beside `Iter`.
 #[derive(Drop)]
 pub struct StateMut<'a> {
     pub blocks: &'a mut [u32],

@@ -11,6 +11,7 @@ impl Version {
         place: layout::NO_PLACE,
     };
 
+    // The constant as a function, as document 01 names it.
     pub fn absent() -> Version
         ensures { result ≡ absent }
     {
@@ -35,6 +36,7 @@ impl Version {
         }
     }
 
+    // Document 01 names `same`, so it stands beside `==`.
     pub fn same(self, other: Version) -> bool
         ensures { result ≡ same self other }
     {

@@ -34,6 +34,7 @@ fn run(
     ensures within { Within result (length page.new) }
     ensures text_after { text.new ≡ filled (told result page.new start text.old) text.old }
 {
+    // The arrays as document 01 names them.
     let mut blocks = [0u32; 1024];
     let mut places = [layout::NO_PLACE; 1024];
     let mut values = [0i64; 1024];
@@ -53,6 +54,7 @@ fn run(
 }
 
 fn main(rt: HostRuntime) {
+    // The array as document 01 names it.
     let mut page = [0u8; 32768];
     let mut text = [0u8; report::LISTING_ROOM];
     let _ = run(&rt, &mut page, &mut text);

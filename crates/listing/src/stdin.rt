@@ -16,7 +16,8 @@ fn when_full(input: &mut impl Read, count: usize) -> Result<usize, InputError>
     }
 }
 
-// Reads an input, standard input that is, into a buffer, and says how many bytes there are.
+// Reads an input, standard input that is, into a buffer, and says how many bytes there are. A failed read and a full buffer are
+// told apart, where `edges` takes what there is.
 pub fn read_input(input: &mut impl Read, buffer: &mut [u8]) -> Result<usize, InputError>
     ensures { Within result (length buffer.new) }
 {

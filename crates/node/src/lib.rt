@@ -1,5 +1,5 @@
-// The services for other languages: words, and arrays for a transaction. Each promise is that of the service below it. The
-// crate `node_c` exports them.
+// The services for other languages, in C's terms: lists one by one, words, and arrays for a transaction. Each promise is that of
+// the service below it. The crate `node_c` exports them.
 #![tactic(auto)]
 
 ghost use Rattle.std.specs.Prelude.{◌≡◌};
@@ -22,14 +22,14 @@ mod arrays;
 // What a refusal's number counts in a word: the place has the 32 bits below.
 const NUMBER: u64 = 4294967296;
 
-// A refusal as a word: the number above, the place below.
+// A refusal as a word: the number above, the place below. No `From`: neither type is of this crate.
 fn refused(r: Refusal) -> u64
     ensures { result ≡ upper (number_of r.reason) r.place }
 {
     (r.reason.number() as u64) * NUMBER + r.place as u64
 }
 
-// An answer as a word.
+// An answer as a word. No `From`, for the same reason.
 fn answered(a: Result<usize, Refusal>) -> u64
     ensures { result ≡ word (outcome a) }
 {

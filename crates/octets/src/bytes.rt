@@ -41,7 +41,8 @@ pub fn le8(p: &[u8], at: usize) -> u64
     u64::from_le_bytes(bytes_at(p, at))
 }
 
-// Whether a byte from `from` up to, not including, `to` is not zero.
+// Whether a byte from `from` up to, not including, `to` is not zero. Two ends and no slice: its promise speaks of the page's
+// indexes.
 // All are joined, and no byte ends the loop, so it is vector code.
 pub fn any_set(p: &[u8], from: usize, to: usize) -> bool
     requires { (from ≤ to) × (to ≤ length p.now) }
@@ -61,7 +62,8 @@ fn first(p: &[u8]) -> Option<usize>
     p.iter().position(|b| *b != 0)
 }
 
-// The first byte from `from` up to, not including, `to` that is not zero; `to` where none is, as its callers compare it with an end.
+// The first byte from `from` up to, not including, `to` that is not zero; `to` where none is. A public name, whose promise has
+// the page's indexes and this end.
 pub fn first_set(p: &[u8], from: usize, to: usize) -> usize
     requires { (from ≤ to) × (to ≤ length p.now) }
     ensures { result ≡ first_in (set? p.now) from to }
@@ -72,7 +74,7 @@ pub fn first_set(p: &[u8], from: usize, to: usize) -> usize
     }
 }
 
-// Copies all bytes of `from`.
+// Copies all bytes of `from`. This and the two conversions below are public names for the library's functions.
 pub fn copy(from: &[u8], to: &mut [u8])
     requires { length from.now ≡ length to.old }
     ensures { to.new ≡ from.now }

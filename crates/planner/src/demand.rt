@@ -59,7 +59,8 @@ fn blockers_of(page: Page<'_>, rank: usize, readers: &[Set; layout::MOST_KEYS]) 
     all.without(rank)
 }
 
-// For each rank the set of those that must stand before it.
+// For each rank the set of those that must stand before it. Stored by index: a walk over the sets would take
+// the pages by index.
 pub fn blockers(batch: &[u8], pages: &[u8]) -> [Set; layout::MOST_PAGES]
     requires { Ranked batch.now pages.now (length pages.now) }
     ensures { (r s : ℕ) → r < length pages.now → s < length pages.now

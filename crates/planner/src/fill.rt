@@ -42,7 +42,8 @@ pub fn fill_verdicts(verdicts: &mut [u8], current: Set, kept: Set)
     }
 }
 
-// Fills the front of the out batch with the pages of the order.
+// Fills the front of the out batch with the pages of the order. By place: of pieces that are lent to be written a proof knows the
+// length and not what is in them.
 pub fn fill_out(batch: &[u8], order: &[u8], out: &mut [u8])
     requires room { length order.now * 512 ≤ length out.old }
     requires by_index { (j : ℕ) → j < length order.now → get_or order.now j 0 * 512 + 512 ≤ length batch.now }

@@ -12,7 +12,7 @@ use ledger::{Page, State, batch, commit, layout};
 use refusals::Refusal;
 use sets::Set;
 
-// Rule 1: the current pages, as a set.
+// Rule 1: the current pages, as a set. What the gate found is a clause, as it speaks of the batch and of the state's keys.
 fn current(batch: &[u8], state: State<'_>) -> Set
     requires batch { Batch (keys (lent state)) batch.now (pages batch.now) }
     requires places_len { length state.places.now ≡ length state.blocks.now }

@@ -18,7 +18,8 @@ fn next_free(blockers: &[Set; layout::MOST_PAGES], left: Set) -> Option<usize>
 {
     'tickets: for p in left.members() {
         let mut others = blockers[p];
-        // By hand: an iterator takes each one out before it is asked, and the first asked mostly blocks: a third more work.
+        // By hand: document 01 names a search that is left as soon as a blocker is found, and an iterator takes each one out
+        // before it is asked: a third more work.
         while let Some(q) = others.first() {
             if left.has(q) {
                 continue 'tickets;
@@ -46,7 +47,7 @@ pub fn fill_order(
 {
     let mut left = kept;
     let mut k = 0;
-    // The set shrinks by a member that each turn finds anew, so no iterator walks it.
+    // The set shrinks by a member that each turn finds anew, so no iterator walks it, and the place is counted here.
     while let Some(p) = next_free(blockers, left) {
         left = left.without(p);
         order[k] = pages[p];

@@ -12,7 +12,7 @@ use crate::put::Text;
 use ledger::page::content;
 use ledger::{Entry, State, Version, layout};
 
-// The line of a refusal.
+// The line of a refusal, for any number, as `fill_refusal` promises.
 pub fn put_refusal(text: &mut Text, number: u32, place: u32)
     requires { text.old.end + 64 ≤ length text.old.out.now }
     ensures { Puts 64 (refusal number place) text.old text.new }
@@ -45,7 +45,7 @@ fn find_place(order: &[u8], i: usize) -> Option<usize>
     order.iter().position(|page| *page as usize == i)
 }
 
-// That place, or a hyphen.
+// That place, or a hyphen. That an order has 64 pages at most is a clause, here and below: a type would be made at each call.
 fn put_place(text: &mut Text, order: &[u8], i: usize)
     requires room { text.old.end + 10 ≤ length text.old.out.now }
     requires few { length order.now ≤ 64 }
@@ -57,7 +57,7 @@ fn put_place(text: &mut Text, order: &[u8], i: usize)
     }
 }
 
-// The line of page `i`.
+// The line of page `i`, its verdict a number as in a lent list.
 fn put_page(text: &mut Text, ticket: u32, verdict: u8, order: &[u8], i: usize)
     requires room { text.old.end + 32 ≤ length text.old.out.now }
     requires few { length order.now ≤ 64 }

@@ -1,4 +1,6 @@
-// What the lines are made of, each put behind the text that a lent buffer holds so far.
+// What the lines are made of, each put behind the text that a lent buffer holds so far. Part by part: no clause
+// of the library's `write!` says that it succeeds, which the listing's promise needs. The room that a part needs is a clause,
+// another for each part.
 ghost use Rattle.std.specs.Prelude.{◌+◌, ◌≤◌, ◌≡◌, [], ◌∷◌, length};
 ghost use Rattle.tonnage.specs.Text.{text_of};
 ghost use Rattle.report.specs.Put.{Puts};
@@ -78,7 +80,7 @@ impl<'a> Text<'a> {
         self.end += count;
     }
 
-    // The word of a verdict; nothing for what is no verdict.
+    // The word of a verdict, a number as in a lent list; nothing for what is no verdict.
     pub fn put_word(&mut self, verdict: u8)
         requires { self.old.end + 6 ≤ length self.old.out.now }
         ensures { Puts 6 (verdict_word verdict) self.old self.new }

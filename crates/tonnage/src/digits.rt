@@ -7,7 +7,8 @@ ghost use Rattle.lists.specs.Search.{some_in};
 ghost use Rattle.tonnage.specs.Text.{other, follow, digits, width, too_large};
 ghost use Rattle.tonnage.specs.Grammar.{digit};
 
-// The first number that no figure of signed 64 bits reaches, with or without a minus.
+// The first number that no figure of signed 64 bits reaches, with or without a minus: a ceiling that sums stay at, so that a
+// text of any length is one loop without an exit.
 pub const BEYOND: u64 = 9223372036854775809;
 
 // The greatest number that with one more digit stays at or below it.

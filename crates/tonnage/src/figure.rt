@@ -5,7 +5,7 @@ ghost use Rattle.tonnage.specs.Text.{signed, below0, tonnes, rest};
 // The kilograms of a tonne.
 const TONNE: u64 = 1000;
 
-// The sign, the whole tonnes, and the kilograms beyond them: 0 to 999.
+// The sign, the whole tonnes, and the kilograms beyond them, 0 to 999, as document 01 splits a figure.
 #[derive(Clone, Copy)]
 pub struct Parts {
     pub minus: bool,
@@ -25,7 +25,7 @@ pub fn split(kilograms: i64) -> Parts
     }
 }
 
-// The figure of a sign and a size: above 0 with a minus, and within 64 bits.
+// The figure of a sign and a size, apart as document 01 splits it: above 0 with a minus, and within 64 bits.
 pub fn with_sign(minus: bool, size: u64) -> i64
     requires size_nonzero { minus ≡ true → (0 < size) × (size ≤ 9223372036854775808) }
     requires size_bound { minus ≡ false → size ≤ 9223372036854775807 }

@@ -16,7 +16,7 @@ pub struct Page<'a> {
     ghost counted: { Counted bytes.now },
 }
 
-// The ticket.
+// The ticket of bytes that are no `Page` yet: the gate takes it before it looks at the page.
 pub fn ticket(page: &[u8]) -> u32
     requires { 8 ≤ length page.now }
     ensures { result ≡ (page_tx page.now).ticket }

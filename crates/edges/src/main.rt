@@ -8,6 +8,9 @@ mod packed;
 mod readers;
 mod services;
 
+ghost use Rattle.std.specs.Prelude.{◌≤◌, length};
+ghost use Rattle.std.specs.Counts.{IsPrefixLen};
+
 use cases::Case;
 use services::{SERVICES, Service};
 use std::io::Read;
@@ -45,7 +48,9 @@ fn run_packed(rt: &impl Print, service: Service, packed: &[u8], shown: Option<u6
 }
 
 // Runs the cases of a service at the front of an input, and gives what is behind them.
-fn run_service<'a>(rt: &impl Print, input: &'a [u8], service: Service) -> &'a [u8] {
+fn run_service<'a>(rt: &impl Print, input: &'a [u8], service: Service) -> &'a [u8]
+    ensures { length result.now ≤ length input.now }
+{
     let mut rest = input;
     let mut right = 0u64;
     let mut all = 0u64;
@@ -84,7 +89,9 @@ fn run_all(rt: &impl Print, input: &[u8]) {
 }
 
 // Reads an input until the buffer is full, the input ends or a read fails, and gives the bytes.
-fn read_full<'a>(input: &mut impl Read, buffer: &'a mut [u8]) -> &'a [u8] {
+fn read_full<'a>(input: &mut impl Read, buffer: &'a mut [u8]) -> &'a [u8]
+    ensures { IsPrefixLen (length result.now) buffer.old }
+{
     let mut at = 0;
     // No `for`: each read moves on by the bytes that it gives.
     while let Ok(count) = input.read(&mut buffer[at..])

@@ -1,5 +1,7 @@
 // The seven services, each run on what a case lends: right where what it gives and every element that it leaves are due.
-use crate::cases::{Case, Lengths};
+ghost use Rattle.std.specs.Prelude.{◌≤◌, length};
+
+use crate::cases::Case;
 use crate::given;
 use ledger::{Read, State, StateMut, Transaction, Version, Write};
 
@@ -63,10 +65,23 @@ impl Service {
         }
     }
 
-    // Runs a case of the service, in lists of its own.
+    // Runs a case of the service, in lists of its own. They are locals, since a struct of them is copied whole.
     pub fn run(self, case: &Case<'_>) -> bool {
-        let mut lists = Lists::new(case);
-        let lent = lists.cut(case.lengths);
+        let mut blocks: [u32; MOST_KEYS] = case.blocks();
+        let mut places: [u16; MOST_KEYS] = case.places();
+        let mut values: [i64; MOST_KEYS] = case.values();
+        let mut verdicts = [LENT; MOST_BYTES];
+        let mut order = [LENT; MOST_BYTES];
+        let mut out = [LENT; MOST_BYTES];
+        let lengths = case.lengths;
+        let lent = Lent {
+            blocks: front(&mut blocks, lengths.blocks),
+            places: front(&mut places, lengths.places),
+            values: front(&mut values, lengths.values),
+            verdicts: front(&mut verdicts, lengths.verdicts),
+            order: front(&mut order, lengths.order),
+            out: front(&mut out, lengths.out),
+        };
         match self {
             Service::ReadPage => read_page(case),
             Service::WritePage => write_page(case, lent),
@@ -77,17 +92,6 @@ impl Service {
             Service::PlanAndCommit => plan_and_commit(case, lent),
         }
     }
-}
-
-// Room for every list that is lent.
-#[derive(Drop)]
-struct Lists {
-    blocks: [u32; MOST_KEYS],
-    places: [u16; MOST_KEYS],
-    values: [i64; MOST_KEYS],
-    verdicts: [u8; MOST_BYTES],
-    order: [u8; MOST_BYTES],
-    out: [u8; MOST_BYTES],
 }
 
 // The lists in the lengths of a case; a page or a text is written in the verdicts' list. No `StateMut` within: the toolchain
@@ -103,33 +107,11 @@ struct Lent<'a> {
 }
 
 // The front of a list, but no more than there is: a case with a longer list comes out wrong.
-fn front<T, const N: usize>(list: &mut [T; N], length: usize) -> &mut [T] {
-    let end = length.min(N);
+fn front<T, const N: usize>(list: &mut [T; N], asked: usize) -> &mut [T]
+    ensures { length result.now ≤ N }
+{
+    let end = asked.min(N);
     &mut list[..end]
-}
-
-impl Lists {
-    fn new(case: &Case<'_>) -> Lists {
-        Lists {
-            blocks: case.blocks(),
-            places: case.places(),
-            values: case.values(),
-            verdicts: [LENT; MOST_BYTES],
-            order: [LENT; MOST_BYTES],
-            out: [LENT; MOST_BYTES],
-        }
-    }
-
-    fn cut(&mut self, lengths: Lengths) -> Lent<'_> {
-        Lent {
-            blocks: front(&mut self.blocks, lengths.blocks),
-            places: front(&mut self.places, lengths.places),
-            values: front(&mut self.values, lengths.values),
-            verdicts: front(&mut self.verdicts, lengths.verdicts),
-            order: front(&mut self.order, lengths.order),
-            out: front(&mut self.out, lengths.out),
-        }
-    }
 }
 
 fn read_page(case: &Case<'_>) -> bool {

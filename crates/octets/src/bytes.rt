@@ -74,12 +74,15 @@ pub fn first_set(p: &[u8], from: usize, to: usize) -> usize
     }
 }
 
-// Copies all bytes of `from`. This and the two conversions below are public names for the library's functions.
+// Copies all bytes of `from`. By hand: of the library's `copy_from_slice` the compiler makes a move that lists may overlap in,
+// and a caller in C then has to bring `memmove`.
 pub fn copy(from: &[u8], to: &mut [u8])
     requires { length from.now ≡ length to.old }
     ensures { to.new ≡ from.now }
 {
-    to.copy_from_slice(from);
+    for i in 0..from.len() {
+        to[i] = from[i];
+    }
 }
 
 // Writes `v` in the `count` bytes from `at` on.
@@ -94,7 +97,7 @@ pub fn put(p: &mut [u8], at: usize, count: usize, v: u64)
     }
 }
 
-// The signed number whose bits `n` is.
+// The signed number whose bits `n` is. This and the next are public names for the library's functions.
 pub fn signed(n: u64) -> i64
     ensures { result ≡ to_z w64 n }
 {

@@ -7,6 +7,7 @@ ghost use Rattle.planning.specs.Plan.{gathered};
 
 use ledger::layout;
 use ledger::verdict::Verdict;
+use octets::bytes;
 use sets::Set;
 
 // The page indexes of an order, as a set.
@@ -53,6 +54,6 @@ pub fn fill_out(batch: &[u8], order: &[u8], out: &mut [u8])
     for (j, page) in order.iter().enumerate() {
         let start = j * layout::PAGE;
         let end = start + layout::PAGE;
-        out[start..end].copy_from_slice(layout::page_at(batch, *page as usize));
+        bytes::copy(layout::page_at(batch, *page as usize), &mut out[start..end]);
     }
 }

@@ -12,14 +12,14 @@ pub loop-j-init : goal.loop-j-init
 unfolding gathered
 loop-j-init c = refl
 
-pub copy_from_slice-requires : goal.copy_from_slice-requires
-copy_from_slice-requires c =
+pub copy-requires : goal.copy-requires
+copy-requires c =
     let here : c.loop-j.j < length c.args.order.now = omega arith in
-    part_long c.loop-j.out (c.loop-j.j * 512) (omega (arith, c.requires.room)) ∙ sym (ap length c.page_at.ensures ∙ page_long _ _ (c.requires.by_index _ here))
+    ap length c.page_at.ensures ∙ page_long _ _ (c.requires.by_index _ here) ∙ sym (part_long c.loop-j.out (c.loop-j.j * 512) (omega (arith, c.requires.room)))
 
 pub loop-j-preserved : goal.loop-j-preserved
 loop-j-preserved c =
-    gathers _ _ c.requires.by_index c.loop-j.j _ _ _ (omega arith) c.loop-j.invariant (c.copy_from_slice.ensures.after ∙ c.page_at.ensures)
+    gathers _ _ c.requires.by_index c.loop-j.j _ _ _ (omega arith) c.loop-j.invariant (c.copy.ensures ∙ c.page_at.ensures)
 
 pub returns : goal.returns
 returns c = gathered_all _ _ c.loop-j.j _ _ (omega arith) c.loop-j.invariant

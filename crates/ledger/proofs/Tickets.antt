@@ -40,7 +40,7 @@ first_tickets : (batch : List ℕ) (m : ℕ) (ts : List ℕ) → TicketsOf batch
 first_tickets batch m ts t = record { each = λ i h. get_or-take m ts i 0 h ∙ t.each i h }
 
 -- a ticket among them stands earlier where it stands on an earlier page
-again_is :
+pub again_is :
     (batch : List ℕ) (m : ℕ) (ts : List ℕ) → TicketsOf batch m ts →
     first_in (λ i. some_in (λ j. eqb (get_or ts j 0) (get_or ts i 0)) 0 i) 0 m ≡ first_in (again batch) 0 m
 again_is batch m ts t =

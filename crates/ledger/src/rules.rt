@@ -7,7 +7,7 @@ use crate::{Kind, Version, Write, layout};
 // The kinds of a write, as a page has them: a page may have any number.
 pub const PUT: u16 = Kind::Put as u16;
 
-const DELETE: u16 = Kind::Delete as u16;
+pub const DELETE: u16 = Kind::Delete as u16;
 
 // A key that is below the least that may stand here, or above 1023.
 pub fn key_wrong(floor: u32, key: u16) -> bool

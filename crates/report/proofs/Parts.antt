@@ -50,14 +50,15 @@ table =
 -- a row of the table spells the word of its verdict
 pub record Spells (v : ℕ) (w : Word) : Type 0 where
   pub short : w.length ≤ 6
+  pub within : w.length ≤ length w.text
   pub spelt : take w.length w.text ≡ verdict_word v
 
-table_spells : (v : ℕ) (d : Word) → v < 4 → Spells v (get_or table v d)
+pub table_spells : (v : ℕ) (d : Word) → v < 4 → Spells v (get_or table v d)
 unfolding ascii
-table_spells zero d h = record { short = omega arith; spelt = refl }
-table_spells (suc zero) d h = record { short = omega arith; spelt = refl }
-table_spells (suc (suc zero)) d h = record { short = omega arith; spelt = refl }
-table_spells (suc (suc (suc zero))) d h = record { short = omega arith; spelt = refl }
+table_spells zero d h = record { short = omega arith; within = omega arith; spelt = refl }
+table_spells (suc zero) d h = record { short = omega arith; within = omega arith; spelt = refl }
+table_spells (suc (suc zero)) d h = record { short = omega arith; within = omega arith; spelt = refl }
+table_spells (suc (suc (suc zero))) d h = record { short = omega arith; within = omega arith; spelt = refl }
 table_spells (suc (suc (suc (suc v)))) d h = absurd (omega arith)
 
 pub row_spells : (v : ℕ) (w : Word) → v < 4 → w ≡ get_or table v w → Spells v w

@@ -6,6 +6,7 @@ ghost use Rattle.refusals.specs.declared.Reason.TheVariants.{ReadKeys, ReadVersi
 ghost use Rattle.ledger.specs.Tx.{no_read, no_write, wrong_version, wrong_kind};
 ghost use Rattle.ledger.specs.Page.{read_at, write_at, read_bytes, write_bytes};
 ghost use Rattle.octets.proofs.Stored.{length-entry};
+ghost use Rattle.std.proofs.Math.Nat.{le_refl, le-add_right};
 
 use crate::page::{content, fill};
 use crate::{Read, Version, Write, layout, rules};
@@ -62,6 +63,9 @@ pub(crate) trait PageEntry: Copy {
 
     // An entry has as many bytes as its size says.
     ghost long: { (x : Self) → length (bytes x) ≡ SIZE };
+
+    // "reads of 8 bytes", "writes of 12 bytes": what a test of the size may rest on.
+    ghost sized: { (8 ≤ SIZE) × (SIZE ≤ 12) };
 }
 
 impl PageEntry for Read {
@@ -93,6 +97,8 @@ impl PageEntry for Read {
     ghost bytes = { read_bytes };
 
     ghost long = { λ x. length-entry _ _ 4 _ };
+
+    ghost sized = { (le_refl 8, le-add_right 8 4) };
 
     fn at(page: &[u8], start: usize) -> Read {
         let place = bytes::le2(page, start + 2);
@@ -146,6 +152,8 @@ impl PageEntry for Write {
     ghost bytes = { write_bytes };
 
     ghost long = { λ x. length-entry _ _ 8 _ };
+
+    ghost sized = { (le-add_right 8 4, le_refl 12) };
 
     fn at(page: &[u8], start: usize) -> Write {
         content::write_at(page, start)

@@ -8,7 +8,10 @@ use native.Mathlib.Omega.{arith}
 use lib.ListN.{set}
 use Rattle.std.specs.Slice.Iter.{chunks_exact_rest, chunks_exact_size}
 use Rattle.ledger.specs.Gate.{tx_at}
-use Rattle.ledger.specs.Page.{page_tx}
+use Rattle.ledger.specs.Page.{page_tx, page_at}
+use Rattle.ledger.specs.Commit.{passes}
+use Rattle.ledger.specs.declared.Version.{Version}
+use Rattle.ledger.specs.Inner.{Ready}
 use Rattle.ledger.specs.State.{held}
 use Rattle.ledger.proofs.Pages.{good-counted}
 use Rattle.ledger.proofs.Commits.{Kept, kept_level, Committing, committing_begins, committing_kept, committing_turns, committing_ends}
@@ -27,6 +30,20 @@ place c = omega (arith, (page c).within, c.requires.batch.few, c.in-Some.ensures
 kept : (c : In-Some) → Kept (held c.args.state.now) (held c.loop-i.state)
 kept c = committing_kept _ _ _ _ _ _ _ _ c.loop-i.invariant.committing
 
+-- what is so of a page of the batch is so of its bytes
+ready_at : {k n : ℕ} {p b : List ℕ} → Ready k p → n ≡ k → b ≡ p → Ready n b
+ready_at r e f = rw (e, f) r
+
+-- the bytes of the page that a promise of commit_page speaks of
+abbrev bytes_of : {r : Bool} (held : ℕ → Version) (b : List ℕ) → r ≡ passes held (page_tx b) → List ℕ
+bytes_of _ b _ = b
+
+-- the page that commit_page is called on has the bytes of page i, whatever they were read by
+is-page : (c : After-commit_page)
+    → Walked c.args.batch.now c.in-Some.bytes.now (chunks_exact_size c.next.new.self.iter) (chunks_exact_rest c.next.new.self.iter) c.loop-i.i-iterator.count
+    → bytes_of _ _ c.commit_page.ensures.value ≡ page_at c.args.batch.now c.loop-i.i-iterator.count
+is-page c p = let i = c.in-Some.ensures.steps.1 in cc
+
 -- a turn that found b, and stored the verdict and the count for it
 next : (c : After-commit_page) (b : Bool) (count : ℕ) (verdicts : List ℕ)
     → Walked c.args.batch.now c.in-Some.bytes.now (chunks_exact_size c.next.new.self.iter) (chunks_exact_rest c.next.new.self.iter) c.loop-i.i-iterator.count
@@ -39,7 +56,7 @@ next c b count verdicts p e f g =
     let i = c.in-Some.ensures.steps.1 in
     committing_turns _ _ _ _ _ _ _ _ c.loop-i.invariant.committing _ b count (held c.commit_page.new.state) verdicts
     (omega (arith, p.within, c.requires.enough))
-    (ap page_tx p.is_page)
+    (ap page_tx (is-page c p))
     (sym e ∙ c.commit_page.ensures.value)
     (rw i at c.commit_page.ensures.left_after)
     f
@@ -59,7 +76,8 @@ loop-i-init c =
 pub invariant_of-page : goal.invariant_of-page
 invariant_of-page c =
     let p = page (goal.at.invariant_of-page c).In-Some in
-    record { counted = rw p.is_page (good-counted _ (c.requires.batch.each _ p.within).good) }
+    let i = c.in-Some.ensures.steps.1 in
+    record { counted = good-counted _ (ready_at (c.requires.batch.each _ p.within) refl (cc)).good }
 
 pub overflow_cast-i : goal.overflow_cast-i
 overflow_cast-i c = omega (arith, place (goal.at.overflow_cast-i c).In-Some)
@@ -69,8 +87,9 @@ commit_page-requires c =
     let at = goal.at.commit_page-requires c in
     let p = page at.In-Some in
     let k = kept at.In-Some in
+    let i = c.in-Some.ensures.steps.1 in
     record {
-      ready = rw (p.is_page, k.blocks) (c.requires.batch.each _ p.within);
+      ready = ready_at (c.requires.batch.each _ p.within) k.blocks (cc);
       level = kept_level (held c.args.state.now) (held c.loop-i.state) k c.requires.level;
       i_bound = place at.In-Some;
     }

@@ -2,6 +2,7 @@ use mathlib.Core.Path.{◌≡◌, sym, ap, ◌∙◌}
 use Prim.Native.Nat.{◌-◌, ◌<◌}
 use native.Mathlib.Omega.{arith}
 use lib.ListN.{length, get_or}
+use Rattle.std.proofs.lemmas.Bool.Decides.{nat_tests}
 use Rattle.refusals.specs.Outcome.{number_of}
 use Rattle.ledger.specs.Listed.{listed}
 use Rattle.ledger.proofs.Listed.{length-listed}
@@ -69,7 +70,7 @@ returns-then-is_wrong g c =
 pub loop-i-preserved : goal.loop-i-preserved
 loop-i-preserved g c =
     let e = g.E.PageEntry in
-    entering_turns (number_of e.KEYS) (number_of e.FORM) _ _ _ _ _ (key-is g (goal.at.loop-i-preserved g c).After-key-key) (within g (goal.at.loop-i-preserved g c).In-loop-i) _ c.loop-i.invariant _ c.if-key-floor.false (test-is g (goal.at.loop-i-preserved g c).After-is_wrong ∙ c.if-is_wrong.false) (omega arith)
+    entering_turns (number_of e.KEYS) (number_of e.FORM) _ _ _ _ _ (key-is g (goal.at.loop-i-preserved g c).After-key-key) (within g (goal.at.loop-i-preserved g c).In-loop-i) _ c.loop-i.invariant _ c.if-key-floor.false (test-is g (goal.at.loop-i-preserved g c).After-is_wrong ∙ c.if-is_wrong.false) (grind (arith, nat_tests, g.met.E.PageEntry.sized))
 
 pub returns : goal.returns
 returns g c =

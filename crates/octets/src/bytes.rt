@@ -74,7 +74,7 @@ pub fn first_set(p: &[u8], from: usize, to: usize) -> usize
     }
 }
 
-// Copies all bytes of `from`. By hand: of the library's `copy_from_slice` the compiler makes a move that lists may overlap in,
+// Copies all bytes of `from`. By hand: of the library's `copy_from_slice` the compiler makes a move for lists that may overlap,
 // and a caller in C then has to bring `memmove`.
 pub fn copy(from: &[u8], to: &mut [u8])
     requires { length from.now ≡ length to.old }

@@ -13,7 +13,7 @@ use crate::{Read, Version, Write, layout, rules};
 use octets::bytes;
 use refusals::Reason;
 
-// Each ghost member is the definition of specs/ for the kind.
+// Each ghost member is the definition of specs/ for the kind; the last two are facts of it.
 pub(crate) trait PageEntry: Copy {
     // How many bytes it has.
     const SIZE: usize;
